@@ -1,0 +1,40 @@
+-- What is read off a document: its depth, the value of a name, whether a value is one (bsonspec 1.1, document).
+use Rattle.std.specs.Prelude.{◌≡◌, ℕ, ◌+◌, ◌==◌, ◌⊎◌, max, pos, List, [], ◌∷◌, Option, find}
+use Rattle.std.specs.Option.{option_map}
+use Rattle.std.specs.Cmp.Lexicographic.{pointwise}
+use Rattle.bson_doc.specs.declared.name.Name.{Name}
+use Rattle.bson_doc.specs.declared.value.Document.{Document, Document-F, fold-Document}
+use Rattle.bson_doc.specs.declared.value.Value.{Value, Value-F, fold-Value}
+use Rattle.bson_doc.specs.declared.value.Value.TheVariants.{Double, Int32}
+use Rattle.bson_doc.specs.declared.value.Value.TheOpen as layer
+
+-- The greatest of what f gives for the items, 0 where there are none.
+abbrev pub greatest : {X : Type 0} → (X → ℕ) → List X → ℕ
+greatest f [] = 0
+greatest f (x ∷ xs) = max (f x) (greatest f xs)
+
+-- A document lies one level above the deepest of its values; its values stand here by their own depths.
+abbrev pub document_step : Document-F ℕ ℕ → ℕ
+document_step d = 1 + greatest (λ e. e.1) d.elements
+
+-- A value without documents inside has no depth; an array counts as a document does.
+abbrev pub value_step : Value-F ℕ ℕ → ℕ
+value_step (layer.Doc d) = d
+value_step (layer.Array ds) = 1 + greatest (λ d. d) ds
+value_step _ = 0
+
+-- How deep documents and arrays lie in one another: 1 for a document without any inside.
+abbrev pub depth_of : Document → ℕ
+depth_of = fold-Document ℕ ℕ value_step document_step
+
+-- The depth of a value.
+abbrev pub depth_inside : Value → ℕ
+depth_inside = fold-Value ℕ ℕ value_step document_step
+
+-- The first value of that name.
+abbrev pub value_of : List ℕ → List (Name × Value) → Option Value
+value_of name es = option_map (λ e. e.1) (find (λ e. pointwise ◌==◌ e.0 name) es)
+
+-- The value is the number one: an int32 of 1 or the double 1.0.
+abbrev pub IsOne : Value → Type 0
+IsOne v = (v ≡ Int32 (pos 1)) ⊎ (v ≡ Double (0 ∷ 0 ∷ 0 ∷ 0 ∷ 0 ∷ 0 ∷ 0xf0 ∷ 0x3f ∷ []))

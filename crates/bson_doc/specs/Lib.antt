@@ -1,0 +1,4 @@
+pub mod Documents
+pub mod Names
+pub mod Room
+pub mod formers

@@ -1,0 +1,54 @@
+ghost use Rattle.std.specs.Prelude.{◌≡◌, IfOk};
+
+use crate::{Document, Memory, Name, Rows, Text, Value};
+use std::alloc::Global;
+
+impl Document {
+    /// An equal document.
+    #[cycle(copy)]
+    pub fn copy(&self, alloc: Global) -> Result<Document, Memory>
+        ensures { IfOk result (λ d. d ≡ self.now) }
+    {
+        let elements = copy_elements(alloc, self.elements.as_slice())?;
+        Ok(Document { elements })
+    }
+}
+
+impl Value {
+    /// An equal value.
+    #[cycle(copy)]
+    pub fn copy(&self, alloc: Global) -> Result<Value, Memory>
+        ensures { IfOk result (λ v. v ≡ self.now) }
+    {
+        match self {
+            Value::Double(raw) => Ok(Value::Double(*raw)),
+            Value::Str(text) => Ok(Value::Str(text.copy(alloc)?)),
+            Value::Doc(inner) => Ok(Value::Doc(inner.copy(alloc)?)),
+            Value::Array(items) => Ok(Value::Array(copy_values(alloc, items.as_slice())?)),
+            Value::Bool(truth) => Ok(Value::Bool(*truth)),
+            Value::Int32(n) => Ok(Value::Int32(*n)),
+        }
+    }
+}
+
+#[cycle(copy)]
+fn copy_elements(alloc: Global, elements: &[(Name, Value)]) -> Result<Rows<(Name, Value)>, Memory>
+    ensures { IfOk result (λ copies. copies ≡ elements.now) }
+{
+    let mut copies = Rows::new(alloc);
+    for (name, value) in elements {
+        copies.push((name.copy(alloc)?, value.copy(alloc)?))?;
+    }
+    Ok(copies)
+}
+
+#[cycle(copy)]
+fn copy_values(alloc: Global, values: &[Value]) -> Result<Rows<Value>, Memory>
+    ensures { IfOk result (λ copies. copies ≡ values.now) }
+{
+    let mut copies = Rows::new(alloc);
+    for value in values {
+        copies.push(value.copy(alloc)?)?;
+    }
+    Ok(copies)
+}

@@ -1,9 +1,121 @@
-use crate::{Document, Value};
+use crate::{Buffer, Bytes, Document, HasNul, Name, Rows, Text, Value, is_one};
+use std::alloc::Global;
 use std::test::Fail;
 
+fn name(alloc: Global, text: &str) -> Result<Name, Fail> {
+    Ok(Name::new(Text::take(alloc, text)?)?)
+}
+
+/// `{a: 1, b: [true, {c: 2}], a: 3}`, of depth 3.
+fn sample(alloc: Global) -> Result<Document, Fail> {
+    let mut inner = Document::new(alloc);
+    inner.push(name(alloc, "c")?, Value::Int32(2))?;
+    let mut items = Rows::new(alloc);
+    items.push(Value::Bool(true))?;
+    items.push(Value::Doc(inner))?;
+    let mut document = Document::new(alloc);
+    document.push(name(alloc, "a")?, Value::Int32(1))?;
+    document.push(name(alloc, "b")?, Value::Array(items))?;
+    document.push(name(alloc, "a")?, Value::Int32(3))?;
+    Ok(document)
+}
+
+fn is_int32(value: Option<&Value>, wanted: i32) -> bool {
+    matches!(value, Some(Value::Int32(n)) if *n == wanted)
+}
+
 #[test]
-fn an_empty_document(rt: HostRuntime) -> Result<(), Fail> {
-    let document = Document::new(rt.alloc());
-    assert_eq!(rt; document.depth(), 1);
+fn the_first_of_two_values_of_a_name_is_got(rt: HostRuntime) -> Result<(), Fail> {
+    let document = sample(rt.alloc())?;
+    assert!(rt; is_int32(document.get("a"), 1));
+    assert!(rt; matches!(document.get("b"), Some(Value::Array(_))));
+    assert!(rt; document.get("c").is_none());
+    assert!(rt; document.get("").is_none());
+    Ok(())
+}
+
+#[test]
+fn pairs_are_found_by_place(rt: HostRuntime) -> Result<(), Fail> {
+    let document = sample(rt.alloc())?;
+    for (place, wanted) in [(0, "a"), (1, "b"), (2, "a")] {
+        let found = document.at(place).ok_or("no pair")?;
+        assert_eq!(rt; found.0.as_str(), wanted, "at {place}");
+    }
+    assert!(rt; document.at(3).is_none());
+    Ok(())
+}
+
+#[test]
+fn documents_and_arrays_count_for_the_depth(rt: HostRuntime) -> Result<(), Fail> {
+    let alloc = rt.alloc();
+    assert_eq!(rt; Document::new(alloc).depth(), 1);
+    let document = sample(alloc)?;
+    assert_eq!(rt; document.depth(), 3);
+    let copy = document.copy(alloc)?;
+    assert_eq!(rt; copy.depth(), 3);
+    assert!(rt; is_int32(copy.get("a"), 1));
+    Ok(())
+}
+
+#[test]
+fn a_hundred_levels_are_copied_and_dropped(rt: HostRuntime) -> Result<(), Fail> {
+    let alloc = rt.alloc();
+    let mut document = Document::new(alloc);
+    for _ in 1..100 {
+        let mut outer = Document::new(alloc);
+        outer.push(name(alloc, "d")?, Value::Doc(document))?;
+        document = outer;
+    }
+    assert_eq!(rt; document.copy(alloc)?.depth(), 100);
+    Ok(())
+}
+
+#[test]
+fn one_is_an_int32_or_a_double(rt: HostRuntime) -> Result<(), Fail> {
+    assert!(rt; is_one(&Value::Int32(1)));
+    assert!(rt; is_one(&Value::Double([0, 0, 0, 0, 0, 0, 0xf0, 0x3f])));
+    assert!(rt; !is_one(&Value::Int32(-1)));
+    assert!(rt; !is_one(&Value::Double([1, 0, 0, 0, 0, 0, 0xf0, 0x3f])));
+    assert!(rt; !is_one(&Value::Bool(true)));
+    Ok(())
+}
+
+#[test]
+fn a_name_has_no_zero(rt: HostRuntime) -> Result<(), Fail> {
+    let alloc = rt.alloc();
+    assert_eq!(rt; name(alloc, "insert")?.copy(alloc)?.as_str(), "insert");
+    let refused = Name::new(Text::take(alloc, "ab\0c\0")?);
+    assert!(rt; matches!(refused, Err(HasNul { at: 2 })));
+    Ok(())
+}
+
+#[test]
+fn texts_and_lists_keep_what_was_pushed(rt: HostRuntime) -> Result<(), Fail> {
+    let alloc = rt.alloc();
+    let mut text = Text::new(alloc);
+    text.push('é')?;
+    text.push('!')?;
+    assert_eq!(rt; text.copy(alloc)?.as_str(), "é!");
+    assert_eq!(rt; text.len(), 3);
+    let mut bytes = Bytes::take(alloc, &[1, 2])?;
+    bytes.reserve(3)?;
+    bytes.push(3)?;
+    assert_eq!(rt; bytes.len(), 3);
+    let held = Bytes::from_vec(bytes.into_vec());
+    assert_eq!(rt; held.as_slice(), [1, 2, 3].as_slice());
+    Ok(())
+}
+
+#[test]
+fn a_buffer_keeps_its_room_and_its_items(rt: HostRuntime) -> Result<(), Fail> {
+    let mut buffer = Buffer::new(rt.alloc());
+    buffer.reserve(2)?;
+    buffer.put(7u8);
+    buffer.put(8u8);
+    buffer.push(9u8)?;
+    assert_eq!(rt; buffer.len(), 3);
+    assert_eq!(rt; buffer.as_slice(), [7, 8, 9].as_slice());
+    let again = Buffer::from_rows(buffer.into_rows());
+    assert_eq!(rt; again.len(), 3);
     Ok(())
 }

@@ -1,0 +1,9 @@
+pub mod Calls
+pub mod Causes
+pub mod Events
+pub mod Inbox
+pub mod Prefix
+pub mod Seen
+pub mod Sinks
+pub mod Sources
+pub mod Streams

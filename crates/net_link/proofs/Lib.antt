@@ -1,3 +1,4 @@
+pub mod PieceLemmas
 pub mod PrefixLemmas
 pub mod EventLemmas
 pub mod SeenLemmas

@@ -28,8 +28,8 @@ pub fold-after-filter : (s : ℕ) (h : List NetEvent) (v : Seen) → fold (after
 fold-after-filter s [] v = refl
 fold-after-filter s (e ∷ h) v =
     elim (is_call e) as (λ b. is_call e ≡ b → fold (after s) (after s v e) h ≡ fold (after s) v (cond b (e ∷ filter is_call h) (filter is_call h))) [
-      true ↦ λ _. fold-after-filter s h (after s v e)
-    | false ↦ λ member. rw (after-member s v e member) (fold-after-filter s h v)
+      | true ↦ λ _. fold-after-filter s h (after s v e)
+      | false ↦ λ member. rw (after-member s v e member) (fold-after-filter s h v)
     ] refl
 
 -- A call's own events, one after another, behind what was seen.
@@ -117,8 +117,8 @@ ended-fold : (s : ℕ) (h : List NetEvent) (v : Seen) → (fold (after s) v h).e
 ended-fold s [] v e = inl e
 ended-fold s (x ∷ h) v e =
     elim (ended-fold s h (after s v x) e) [
-      inl now ↦ elim (ended-after s v x now) [ inl before ↦ inl before | inr is ↦ inr (subst (λ (y : NetEvent). Contains (y ∷ h) (event.Ended s)) (sym is) (Contains-head (event.Ended s) h)) ]
-    | inr later ↦ inr (Contains-tail x (event.Ended s) h later)
+      | inl now ↦ elim (ended-after s v x now) [ inl before ↦ inl before | inr is ↦ inr (subst (λ (y : NetEvent). Contains (y ∷ h) (event.Ended s)) (sym is) (Contains-head (event.Ended s) h)) ]
+      | inr later ↦ inr (Contains-tail x (event.Ended s) h later)
     ]
 
 -- Where a stream was seen to end, the event stands in the history.
@@ -135,8 +135,8 @@ fault-fold : (s : ℕ) (h : List NetEvent) (v : Seen) → (fold (after s) v h).f
 fault-fold s [] v e = inl e
 fault-fold s (x ∷ h) v e =
     elim (fault-fold s h (after s v x) e) [
-      inl now ↦ elim (fault-after s v x now) [ inl before ↦ inl before | inr is ↦ inr (subst (λ (y : NetEvent). Contains (y ∷ h) (event.Fault s)) (sym is) (Contains-head (event.Fault s) h)) ]
-    | inr later ↦ inr (Contains-tail x (event.Fault s) h later)
+      | inl now ↦ elim (fault-after s v x now) [ inl before ↦ inl before | inr is ↦ inr (subst (λ (y : NetEvent). Contains (y ∷ h) (event.Fault s)) (sym is) (Contains-head (event.Fault s) h)) ]
+      | inr later ↦ inr (Contains-tail x (event.Fault s) h later)
     ]
 
 -- Where a stream was seen to fail, the event stands in the history.

@@ -1,9 +1,12 @@
 pub mod Calls
 pub mod Causes
 pub mod Events
+pub mod Failing
 pub mod Inbox
 pub mod Prefix
+pub mod Round
 pub mod Seen
 pub mod Sinks
 pub mod Sources
 pub mod Streams
+pub mod Told

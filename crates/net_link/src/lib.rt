@@ -4,15 +4,27 @@
 mod clock;
 mod dice;
 mod event;
+mod event_log;
+mod failures;
 mod gate;
+mod list_dice;
 mod net;
+mod pieces;
 mod sink;
+mod slice_source;
 mod source;
+mod tick_clock;
+mod vec_sink;
 
 pub use clock::Clock;
 pub use dice::Dice;
 pub use event::{Effect, NetEvent};
+pub use event_log::EventLog;
 pub use gate::{Gate, OpenGate, Phase};
+pub use list_dice::ListDice;
 pub use net::{Came, Dialed, Net, Wrote};
 pub use sink::{Sink, SinkTook};
+pub use slice_source::SliceSource;
 pub use source::{Source, SourceCame};
+pub use tick_clock::TickClock;
+pub use vec_sink::VecSink;

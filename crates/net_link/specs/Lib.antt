@@ -5,6 +5,7 @@ pub mod Failing
 pub mod Inbox
 pub mod Prefix
 pub mod Round
+pub mod Script
 pub mod Seen
 pub mod Sinks
 pub mod Sources

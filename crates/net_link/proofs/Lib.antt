@@ -2,3 +2,4 @@ pub mod PieceLemmas
 pub mod PrefixLemmas
 pub mod EventLemmas
 pub mod SeenLemmas
+pub mod ScriptLemmas

@@ -132,13 +132,6 @@ close_state t s = record s {
   events = s.events ++ event.Closed t ∷ [];
 }
 
--- The answer of a read of an empty inbox.
-abbrev pub IsEmptyAnswer : Bool → Came → Type 0
-IsEmptyAnswer ends came.End = ends ≡ true
-IsEmptyAnswer ends came.NotYet = ends ≡ false
-IsEmptyAnswer ends came.Memory = Unit {0}
-IsEmptyAnswer ends _ = ⊥
-
 -- The answer of a read that hands out these bytes.
 abbrev pub IsGiven : List ℕ → List ℕ → Came → Type 0
 IsGiven bytes into (came.Got n) = (n ≡ length bytes) × (take n into ≡ bytes)

@@ -6,7 +6,7 @@ ghost use Rattle.net_link.specs.Events.{Adds, IsFresh, is_at};
 ghost use Rattle.net_link.specs.Failing.{IsDue, unused};
 ghost use Rattle.net_link.specs.Inbox.{Arrives, ArrivesBut, ReadsInbox};
 ghost use Rattle.net_link.specs.Streams.{KeepsOpen, KeepsOpenBut, StaysEnded};
-ghost use Rattle.net_link.specs.Script.{IsLive, Ends, unread, line_at, piece_size, dial_state, write_state, read_state, close_state, noted, faulted, IsEmptyAnswer, IsGiven};
+ghost use Rattle.net_link.specs.Script.{IsLive, Ends, unread, line_at, piece_size, dial_state, write_state, read_state, close_state, noted, faulted, IsGiven};
 
 use crate::event_log::EventLog;
 use crate::failures::Failures;
@@ -173,6 +173,7 @@ impl Net for ScriptNet {
         self.open(address)
     }
 
+    #[tactic(auto, using(crate::proofs::ScriptLemmas::live_below))]
     fn write(&mut self, stream: u64, bytes: &[u8]) -> Wrote
         requires is_open { IsLive self.old.lines stream }
         requires piece { 0 < length bytes.now }
@@ -206,6 +207,7 @@ impl Net for ScriptNet {
         }
     }
 
+    #[tactic(auto, using(crate::proofs::ScriptLemmas::live_below))]
     fn read(&mut self, stream: u64, into: &mut [u8]) -> Came
         requires is_open { IsLive self.old.lines stream }
         requires piece { 0 < length into.old }
@@ -230,16 +232,27 @@ impl Net for ScriptNet {
                 Err(_) => Came::Memory,
             };
         }
-        let front = self.lines[stream as usize].front(into.len());
-        if front.is_empty() {
-            return self.nothing(stream);
+        let line = &self.lines[stream as usize];
+        let front = line.front(into.len());
+        if !front.is_empty() {
+            let Ok(bytes) = Bytes::take(self.alloc, front) else {
+                return Came::Memory;
+            };
+            return self.give(stream, bytes, into);
         }
-        let Ok(bytes) = Bytes::take(self.alloc, front) else {
-            return Came::Memory;
-        };
-        self.give(stream, bytes, into)
+        if line.ends() {
+            return match self.note(NetEvent::Ended { stream }) {
+                Ok(()) => Came::End,
+                Err(_) => Came::Memory,
+            };
+        }
+        match self.note(NetEvent::Dry { stream }) {
+            Ok(()) => Came::NotYet,
+            Err(_) => Came::Memory,
+        }
     }
 
+    #[tactic(auto, using(crate::proofs::ScriptLemmas::live_below))]
     fn close(&mut self, stream: u64)
         requires { IsLive self.old.lines stream }
 
@@ -260,24 +273,6 @@ impl Net for ScriptNet {
 }
 
 impl ScriptNet {
-    /// A read of an inbox that is empty.
-    fn nothing(&mut self, stream: u64) -> Came
-        requires { stream < length self.old.lines }
-        ensures state { (into : List ℕ) → self.new ≡ read_state stream into result self.old }
-        ensures answer { IsEmptyAnswer (line_at self.old.lines stream).ends result }
-    {
-        if self.lines[stream as usize].ends() {
-            return match self.note(NetEvent::Ended { stream }) {
-                Ok(()) => Came::End,
-                Err(_) => Came::Memory,
-            };
-        }
-        match self.note(NetEvent::Dry { stream }) {
-            Ok(()) => Came::NotYet,
-            Err(_) => Came::Memory,
-        }
-    }
-
     /// A read that hands out the front of an inbox, of which `bytes` is a copy.
     fn give(&mut self, stream: u64, bytes: Bytes, into: &mut [u8]) -> Came
         requires number { stream < length self.old.lines }

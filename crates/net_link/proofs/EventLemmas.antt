@@ -1,9 +1,8 @@
 -- What a call adds to a history.
-use Rattle.std.proofs.Common.{◌≡◌, true, false, List, [], ◌∷◌, ◌++◌, refl, ap, sym, ◌∙◌, append_assoc, cond}
+use Rattle.std.proofs.Common.{◌≡◌, true, List, [], ◌∷◌, ◌++◌, ap, sym, ◌∙◌, append_assoc, cond}
 use Rattle.std.proofs.lemmas.List.{append-nil}
 use Rattle.std.proofs.lemmas.List.Elements.{filter-append}
 use Rattle.std.specs.List.{filter}
-use Rattle.net_link.specs.Prefix.{IsPrefixOf}
 use Rattle.net_link.specs.Events.{is_call, Adds}
 use Rattle.net_link.specs.declared.event.NetEvent.{NetEvent}
 use Rattle.net_link.proofs.PrefixLemmas.{IsPrefixOf-same, IsPrefixOf-append, IsPrefixOf-trans}

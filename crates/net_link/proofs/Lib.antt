@@ -3,3 +3,4 @@ pub mod PrefixLemmas
 pub mod EventLemmas
 pub mod SeenLemmas
 pub mod ScriptLemmas
+pub mod TurnLemmas

@@ -1,8 +1,7 @@
 -- The streams of a scripted net behind a dial, a read and a close.
-use Rattle.std.proofs.Common.{◌≡◌, ◌≢◌, ℕ, zero, suc, ◌+◌, ◌<◌, ◌≤◌, min, max, Bool, true, false, cond, List, [], ◌∷◌, ◌++◌, length, map, take, drop, set, get_or, refl, ap, sym, ◌∙◌, eqb, ne_eqb, arith}
+use Rattle.std.proofs.Common.{◌≡◌, ℕ, zero, suc, ◌+◌, ◌<◌, ◌≤◌, true, false, cond, List, [], ◌∷◌, ◌++◌, length, map, take, drop, set, get_or, refl, ap, sym, ◌∙◌, eqb, ne_eqb, arith}
 use Rattle.std.proofs.lemmas.List.{get_or-set_same, get_or-set_other, get_or_append_left, length-set, length-take, length-take-le, length_push, nil_from_length, get_or_read, take-append-drop, take_min}
 use Rattle.std.proofs.lemmas.List.Elements.{All-push}
-use Rattle.net_link.specs.Prefix.{IsPrefixOf}
 use Rattle.net_link.specs.Events.{IsFresh, is_at}
 use Rattle.net_link.specs.Calls.{IfStream, IsNewStream}
 use Rattle.net_link.specs.Inbox.{Arrives, ArrivesBut, ReadsInbox}

@@ -1,9 +1,9 @@
 -- What a history says of a stream, as calls add to it.
-use Rattle.std.proofs.Common.{◌≡◌, ◌≢◌, ℕ, Bool, true, false, List, [], ◌∷◌, ◌++◌, refl, ap, sym, ◌∙◌, cond, eqb, eq-eqb, inl, inr, ◌⊎◌, subst, arith}
+use Rattle.std.proofs.Common.{◌≡◌, ℕ, Bool, true, false, List, [], ◌∷◌, ◌++◌, refl, ap, sym, ◌∙◌, cond, eqb, eq-eqb, inl, inr, ◌⊎◌, subst, arith}
 use Rattle.std.proofs.lemmas.List.Elements.{All-head, All-tail, Contains-append_right}
 use Rattle.std.proofs.lemmas.Bool.Decides.{eqb_tells}
 use Rattle.std.proofs.lemmas.List.Sums.{fold-append}
-use Rattle.std.specs.List.{All, Contains, filter, fold}
+use Rattle.std.specs.List.{Contains, filter, fold}
 use Rattle.net_link.specs.Events.{is_call, is_at, IsFresh, Adds}
 use Rattle.net_link.specs.Seen.{Seen, unseen, with_event, after, seen}
 use Rattle.net_link.specs.declared.event.NetEvent.{NetEvent}

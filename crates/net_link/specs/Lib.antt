@@ -11,3 +11,4 @@ pub mod Sinks
 pub mod Sources
 pub mod Streams
 pub mod Told
+pub mod Turns

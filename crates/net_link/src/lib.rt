@@ -17,7 +17,9 @@ mod slice_source;
 mod source;
 mod stream_plan;
 mod tick_clock;
+mod turns;
 mod vec_sink;
+mod writing;
 
 pub use clock::Clock;
 pub use dice::Dice;
@@ -32,4 +34,6 @@ pub use slice_source::SliceSource;
 pub use source::{Source, SourceCame};
 pub use stream_plan::StreamPlan;
 pub use tick_clock::TickClock;
+pub use turns::{receive_some, send_some};
 pub use vec_sink::VecSink;
+pub use writing::{SinkFault, write_all};

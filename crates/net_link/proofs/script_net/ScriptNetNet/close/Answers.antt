@@ -1,6 +1,6 @@
-use Rattle.std.proofs.Common.{◌≡◌, ◌<◌, ap, length, arith}
+use Rattle.std.proofs.Common.{ap, arith}
 use Rattle.std.proofs.lemmas.List.{get_or_read}
-use Rattle.net_link.specs.Script.{gone, line_at, IsLive, IsLive-below}
+use Rattle.net_link.specs.Script.{gone, IsLive, IsLive-below}
 use Rattle.net_link.proofs.ScriptLemmas.{IsSound-shut, KeepsOpenBut-set, ArrivesBut-set, StaysEnded-shut, IsLive-shut, live_count-positive}
 use Rattle.net_link.proofs.script_net.ScriptNetNet.close.Goals as goal
 

@@ -24,8 +24,8 @@ returns-then-not-is_empty-clause-inbox c =
     let line = line_at-read c.args.self.now.lines c.self.inside.lines.items c.args.stream c.index-line.result.now (ap (λ s. s.lines) c.self.view_is) c.requires.is_open c.index-line.ensures in
     let copied : c.in-Ok-take.bytes ≡ c.front-front.result.now = c.in-Ok-take.ensures in
     let front : c.in-Ok-take.bytes ≡ take (length c.in-Ok-take.bytes) (line_at c.args.self.now.lines c.args.stream).left =
-        rw (copied, c.front-front.ensures, line)
-        (take-length-take (piece_size (length c.args.into.now) (line_at c.args.self.now.lines c.args.stream)) (line_at c.args.self.now.lines c.args.stream).left) in
+    rw (copied, c.front-front.ensures, line)
+    (take-length-take (piece_size (length c.args.into.now) (line_at c.args.self.now.lines c.args.stream)) (line_at c.args.self.now.lines c.args.stream).left) in
     rw c.give.ensures.state
     (ReadsInbox-given c.args.stream c.in-Ok-take.bytes c.give.new.into c.give.result c.args.self.now (IsLive-below c.args.self.now.lines c.args.stream c.requires.is_open) front c.give.ensures.given)
 
@@ -49,8 +49,11 @@ unfolding unread Ends
 returns-in-Ok-note-2-clause-inbox c =
     let line = line_at-read c.args.self.now.lines c.self.inside.lines.items c.args.stream c.index-line.result.now (ap (λ s. s.lines) c.self.view_is) c.requires.is_open c.index-line.ensures in
     let none = rw (c.front-front.ensures, line) at (eqb-true (length c.front-front.result.now) 0 (sym c.is_empty.ensures ∙ c.if-not-is_empty.false)) in
-    let empty : (line_at c.args.self.now.lines c.args.stream).left ≡ [] = front-nil (length c.args.into.now) (line_at c.args.self.now.lines c.args.stream) c.requires.piece none in
-    (empty, rw c.in-Ok-note-2.ensures.ok empty, λ ends.
-      let not : (line_at c.args.self.now.lines c.args.stream).ends ≡ false = rw (← line) (sym c.ends.ensures ∙ c.if-ends.false) in
-      let yes : (line_at c.args.self.now.lines c.args.stream).ends ≡ true = rw c.in-Ok-note-2.ensures.ok at ends in
-      let never : ⊥ = cc in never)
+    let empty : (line_at c.args.self.now.lines c.args.stream).left ≡ [] = front-nil (length c.args.into.now) (line_at c.args.self.now.lines c.args.stream) c.requires.piece none in (
+      empty,
+      rw c.in-Ok-note-2.ensures.ok empty,
+      λ ends.
+          let not : (line_at c.args.self.now.lines c.args.stream).ends ≡ false = rw (← line) (sym c.ends.ensures ∙ c.if-ends.false) in
+          let yes : (line_at c.args.self.now.lines c.args.stream).ends ≡ true = rw c.in-Ok-note-2.ensures.ok at ends in
+          let never : ⊥ = cc in never,
+    )

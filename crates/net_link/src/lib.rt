@@ -1,4 +1,24 @@
-//! The outside of the driver core, as traits, and implementations of them in memory.
+//! The outside of the driver core: nets, sources, sinks, clocks, dice and gates, as traits with contracts, and
+//! implementations of each in memory.
+//!
+//! The core does no input or output of its own. Whoever runs it hands in a [`Net`] for the streams to servers, a
+//! [`Source`] for a script, a [`Sink`] for a report, a [`Clock`], [`Dice`] and a [`Gate`]. Code above is generic over
+//! these traits, so that what it promises holds for every implementation: sockets, memory, or a hall of members.
+//!
+//! Three rules hold for all of them, and are this product's own:
+//!
+//! - A failure is told only where a count of faults rose in that call. Counts are u64 and stay at the greatest number.
+//! - No call of a net waits. What can't be had yet is answered by `NotYet`.
+//! - A type may tell what it did: a net its history as a list of [`NetEvent`] and its streams' inboxes, a source what
+//!   is left, a sink what was written. Adapters of real sockets and files tell nothing; all that stands here tells all.
+//!
+//! Of a net call [`Net::dial`] first; the stream that it gives goes to [`Net::write`] and [`Net::read`], and at last to
+//! [`Net::close`]. [`send_some`] and [`receive_some`] are one write of what is unsent and one read into a buffer, and
+//! [`write_all`] writes a whole text to a sink.
+//!
+//! In memory: [`ScriptNet`] follows one [`StreamPlan`] a dial, [`SliceSource`] reads bytes, [`VecSink`] takes bytes up
+//! to a size; each fails at the calls whose numbers it is given. [`TickClock`] counts its looks, [`ListDice`] rolls a
+//! list of words, [`OpenGate`] never waits. [`EventLog`] is the history of a net that tells one.
 #![tactic(auto)]
 
 mod clock;
@@ -16,6 +36,8 @@ mod sink;
 mod slice_source;
 mod source;
 mod stream_plan;
+#[cfg(test)]
+mod tests;
 mod tick_clock;
 mod turns;
 mod vec_sink;

@@ -68,6 +68,27 @@ impl ScriptNet {
         self.log.as_slice()
     }
 
+    /// What the next read of a stream hands out into a piece of that size.
+    #[tactic(auto, using(crate::proofs::ScriptLemmas::live_below))]
+    fn front(&self, stream: u64, room: usize) -> &[u8]
+        requires { IsLive self.now.lines stream }
+        ensures { result.now ≡ take (piece_size room (line_at self.now.lines stream)) (line_at self.now.lines stream).left }
+    {
+        let line = &self.lines[stream as usize];
+        line.front(room)
+    }
+
+    /// Whether the peer ends a stream behind its bytes.
+    #[tactic(auto, using(crate::proofs::ScriptLemmas::live_below))]
+    fn ends(&self, stream: u64) -> bool
+        requires { IsLive self.now.lines stream }
+        ensures { result ≡ (line_at self.now.lines stream).ends }
+    {
+        let line = &self.lines[stream as usize];
+        line.ends()
+    }
+
+    /// Notes the event of a call that does not fail.
     fn note(&mut self, event: NetEvent) -> Result<(), Memory>
         requires { (s : ℕ) → length self.old.lines ≤ s → is_at event s ≡ false }
         ensures ok { OnOk result (self.new ≡ noted event self.old) }
@@ -78,6 +99,7 @@ impl ScriptNet {
         Ok(())
     }
 
+    /// Notes the event of a call that fails.
     fn fail(&mut self, event: NetEvent) -> Result<(), Memory>
         requires { (s : ℕ) → length self.old.lines ≤ s → is_at event s ≡ false }
         ensures ok { OnOk result (self.new ≡ faulted event self.old) }
@@ -232,15 +254,14 @@ impl Net for ScriptNet {
                 Err(_) => Came::Memory,
             };
         }
-        let line = &self.lines[stream as usize];
-        let front = line.front(into.len());
+        let front = self.front(stream, into.len());
         if !front.is_empty() {
             let Ok(bytes) = Bytes::take(self.alloc, front) else {
                 return Came::Memory;
             };
             return self.give(stream, bytes, into);
         }
-        if line.ends() {
+        if self.ends(stream) {
             return match self.note(NetEvent::Ended { stream }) {
                 Ok(()) => Came::End,
                 Err(_) => Came::Memory,

@@ -4,3 +4,4 @@ pub mod EventLemmas
 pub mod SeenLemmas
 pub mod ScriptLemmas
 pub mod TurnLemmas
+mod Worked

@@ -1,4 +1,5 @@
 -- What the answers of a net's calls say: the events that each stands for, and how much it took or gave.
+-- own: what a net tells, one event an answer.
 use Rattle.std.specs.Prelude.{ℕ, ◌<◌, ◌≤◌, List, [], ◌∷◌, length, take}
 use Rattle.net_link.specs.declared.event.NetEvent.{NetEvent}
 use Rattle.net_link.specs.declared.event.NetEvent.TheVariants as event

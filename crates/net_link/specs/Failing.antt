@@ -1,4 +1,5 @@
 -- Calls that are to fail, by their numbers, and the counts of calls and faults.
+-- own: the one way in which what stands in memory fails.
 use Rattle.std.specs.Prelude.{ℕ, List, ◌==◌, IsTrue}
 use Rattle.std.specs.List.{list_any}
 use Rattle.net_link.specs.Causes.{next_count}

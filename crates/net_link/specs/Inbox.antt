@@ -1,4 +1,5 @@
 -- The inboxes of a net's streams: what a peer sent and no read has had.
+-- own: what a net tells of its peers, so that not yet and the end have a cause that contracts see.
 use Rattle.std.specs.Prelude.{◌≡◌, ◌≢◌, ℕ, List, [], ◌++◌, take}
 use Rattle.net_link.specs.Prefix.{IsPrefixOf}
 use Rattle.net_link.specs.declared.net.Came.{Came}

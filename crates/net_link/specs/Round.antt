@@ -1,4 +1,5 @@
 -- A list of words that is read round and round.
+-- own: dice whose every word is foretold.
 use Rattle.std.specs.Prelude.{ℕ, ◌+◌, List, length, if◌then◌else◌, nat_lt}
 
 -- The words, and the place of the next one.

@@ -1,4 +1,5 @@
 -- The state of a scripted net, and what each call makes of it.
+-- own: a net in memory whose every answer is foretold but want of memory.
 use Rattle.std.specs.Prelude.{◌≡◌, ◌+◌, ◌<◌, ◌≤◌, ℕ, Bool, true, false, List, [], ◌∷◌, ◌++◌, length, min, max, map, take, drop, slice_index_or, slice_set, if◌then◌else◌}
 use Rattle.std.proofs.Common.{arith, zero, suc}
 use Rattle.net_link.specs.Events.{IsFresh}

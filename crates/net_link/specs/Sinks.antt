@@ -1,4 +1,5 @@
 -- What a write to a sink says of the bytes written.
+-- own: as std's Write, with a failure that its object counts.
 use Rattle.std.specs.Prelude.{◌≡◌, ℕ, ◌<◌, ◌≤◌, List, ◌++◌, length, take}
 use Rattle.net_link.specs.Failing.{Failing, counted, failed}
 use Rattle.net_link.specs.declared.sink.SinkTook.{SinkTook}

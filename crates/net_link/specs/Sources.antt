@@ -1,4 +1,5 @@
 -- What a read from a source says of the bytes that are left.
+-- own: as std's Read, with a failure that its object counts.
 use Rattle.std.specs.Prelude.{◌≡◌, ℕ, ◌<◌, ◌≤◌, List, [], ◌++◌, length, take}
 use Rattle.net_link.specs.Failing.{Failing, counted, failed}
 use Rattle.net_link.specs.declared.source.SourceCame.{SourceCame}

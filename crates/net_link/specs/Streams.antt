@@ -1,4 +1,5 @@
 -- What a call keeps of streams: which are open, and which the peer has ended.
+-- own: a caller with many streams keeps one fact for each.
 use Rattle.std.specs.Prelude.{ℕ, ◌≢◌}
 
 -- What was open is open.

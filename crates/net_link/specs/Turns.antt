@@ -7,6 +7,7 @@ use Rattle.net_link.specs.declared.net.Came.{Came}
 use Rattle.net_link.specs.declared.net.Came.TheVariants as came
 
 -- Since an earlier moment exactly these bytes went out on a stream, and no other call on it said anything but not yet.
+-- own: what a loop that sends carries from turn to turn.
 pub record Outs (began now : Seen) (bytes : List ℕ) : Type 0 where
   pub out : now.out ≡ began.out ++ bytes
   pub came : now.came ≡ began.came
@@ -14,6 +15,7 @@ pub record Outs (began now : Seen) (bytes : List ℕ) : Type 0 where
   pub fault : now.fault ≡ began.fault
 
 -- Since an earlier moment exactly these bytes came on a stream, and no other call on it said anything but not yet.
+-- own: what a loop that receives carries from turn to turn.
 pub record Comes (began now : Seen) (bytes : List ℕ) : Type 0 where
   pub came : now.came ≡ began.came ++ bytes
   pub out : now.out ≡ began.out

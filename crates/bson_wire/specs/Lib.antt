@@ -1,0 +1,5 @@
+pub mod Kinds
+pub mod Spelling
+pub mod Spelled
+pub mod Reading
+pub mod Written

@@ -1,0 +1,53 @@
+ghost use Rattle.std.specs.Prelude.{◌≡◌, ◌≢◌, ◌≤◌, ℕ, List, ◌++◌, length, take, Some, None, IfOk, IfErr, OnOk, MatchResult};
+ghost use Rattle.bson_doc.specs.declared.value.Document.{Document};
+ghost use Rattle.bson_wire.specs.Spelling.{Spells};
+ghost use Rattle.bson_wire.specs.Reading.{Gives, read, flaw};
+
+use crate::BsonFault;
+use crate::parts::bytes_of;
+use crate::reading::body_of;
+use bson_doc::Document;
+use byteorder::{ByteOrder, LittleEndian};
+use std::alloc::Global;
+
+/// The greatest total of a document.
+const MOST_BYTES: usize = 48_000_000;
+
+/// How many levels may lie inside the outermost document.
+const LEVELS_INSIDE: u32 = 99;
+
+/// Reads the document at the front of the bytes, and gives its length. No byte behind the document is read.
+pub fn decode(alloc: Global, bytes: &[u8]) -> Result<(Document, usize), BsonFault>
+    // What is read is spelled so.
+    ensures found { IfOk result (λ x. (x.1 ≤ length bytes.now) × Spells (take x.1 bytes.now) x.0) }
+
+    // What is spelled so is read, whatever follows, unless memory runs out.
+    ensures only { (text more : List ℕ) (document : Document) → bytes.now ≡ text ++ more → Spells text document
+        → MatchResult result (λ x. x ≡ (document, length text)) (λ e. e ≡ BsonFault.Memory) }
+
+    // An Ok comes only where the bytes have no flaw, and a fault is the first one from the left.
+    ensures sound { OnOk result (flaw bytes.now ≡ None) }
+    ensures fault { IfErr result (λ e. e ≢ BsonFault.Memory → flaw bytes.now ≡ Some e) }
+{
+    let (document, rest) = outermost(alloc, bytes)?;
+    Ok((document, bytes.len() - rest.len()))
+}
+
+#[tactic(auto, unfolding(crate::specs::Reading::read))]
+fn outermost(alloc: Global, bytes: &[u8]) -> Result<(Document, &[u8]), BsonFault>
+    ensures gives { Gives (λ x. (x.0, x.1.now)) result (read bytes.now) }
+    ensures rest { IfOk result (λ x. length x.1.now ≤ length bytes.now) }
+{
+    if bytes.len() < 4 {
+        return Err(BsonFault::Short);
+    }
+    let (number, behind) = bytes.split_at(4);
+    let total = LittleEndian::read_u32(number) as usize;
+    if total < 5 || MOST_BYTES < total {
+        return Err(BsonFault::Length { at: 0 });
+    }
+    if bytes.len() < total {
+        return Err(BsonFault::Short);
+    }
+    body_of(alloc, LEVELS_INSIDE, 0, total, behind)
+}

@@ -1,0 +1,75 @@
+ghost use Rattle.std.specs.Prelude.{◌≡◌};
+
+use std::alloc::{AllocError, AllocFailed};
+use thiserror::Error;
+
+/// Why some bytes do not begin with a document: the first fault from the left. Places count from the front of the bytes.
+#[derive(Clone, Copy, Debug, PartialEq, Eq, Error)]
+pub enum BsonFault {
+    /// Fewer than four bytes are there, or the total is in its range and exceeds the bytes.
+    #[error("the bytes end before the document does")]
+    Short,
+    /// What the length field at the place counts does not lie so: it passes the end of what encloses it, is below the
+    /// least that it can be, or does not end with its 00.
+    #[error("the length at {at} does not fit")]
+    Length { at: u32 },
+    /// The type byte at the place has no kind.
+    #[error("the type byte {byte} at {at} has no kind")]
+    Kind { at: u32, byte: u8 },
+    /// The byte at the place, of a name or a text, is no UTF-8.
+    #[error("the byte at {at} is no UTF-8")]
+    Utf8 { at: u32 },
+    /// The truth value at the place is neither 00 nor 01.
+    #[error("the truth value {byte} at {at} is neither 0 nor 1")]
+    Bool { at: u32, byte: u8 },
+    /// The length at the place is that of a document or an array at depth 101.
+    #[error("the document at {at} lies too deep")]
+    Deep { at: u32 },
+    /// There is not enough memory.
+    #[error("out of memory")]
+    Memory,
+}
+
+impl From<AllocError> for BsonFault {
+    ghost use Rattle.bson_wire.specs.declared.fault.BsonFault.TheVariants.{Memory};
+
+    ghost from_gives = { λ _ e. e ≡ Memory };
+
+    fn from(_e: AllocError) -> BsonFault {
+        BsonFault::Memory
+    }
+}
+
+/// Why a document has no spelling.
+#[derive(Clone, Copy, Debug, PartialEq, Eq, Error)]
+pub enum EncodeFault {
+    /// It has more than 100 levels.
+    #[error("the document has more than 100 levels")]
+    Deep,
+    /// It has at most 100 levels, and its spelling more than 48,000,000 bytes.
+    #[error("the document has more than 48,000,000 bytes")]
+    Long,
+    /// There is not enough memory.
+    #[error("out of memory")]
+    Memory,
+}
+
+impl From<AllocError> for EncodeFault {
+    ghost use Rattle.bson_wire.specs.declared.fault.EncodeFault.TheVariants.{Memory};
+
+    ghost from_gives = { λ _ e. e ≡ Memory };
+
+    fn from(_e: AllocError) -> EncodeFault {
+        EncodeFault::Memory
+    }
+}
+
+impl<T: Drop> From<AllocFailed<T>> for EncodeFault {
+    ghost use Rattle.bson_wire.specs.declared.fault.EncodeFault.TheVariants.{Memory};
+
+    ghost from_gives = { λ _ e. e ≡ Memory };
+
+    fn from(_e: AllocFailed<T>) -> EncodeFault {
+        EncodeFault::Memory
+    }
+}

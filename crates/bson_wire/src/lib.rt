@@ -1,0 +1,29 @@
+//! The bytes of BSON documents (bsonspec.org, version 1.1): a reader and a writer of the binary form.
+//!
+//! [`encode`] gives the one spelling of a document in which the names of an array are "0", "1" and so on. [`decode`]
+//! reads the document at the front of some bytes, or names the first fault from the left with its place. What bytes
+//! spell a document is said by the relation `Spells` of `specs/Spelling.antt`, apart from both directions; `spelled` of
+//! `specs/Spelled.antt` is the one spelling, and `flaw` of `specs/Reading.antt` the first fault.
+//!
+//! This product's own limits: a document has at most 100 levels and 48,000,000 bytes. A double is kept as its eight
+//! bytes. The names of an array's elements may be any names, and are not kept.
+//!
+//! The kinds are those of `bson_doc`; a further kind is a case of [`kind`](crate) and of the functions by kinds, and
+//! changes nothing else.
+#![tactic(auto)]
+
+mod decoding;
+mod encoding;
+mod fault;
+mod kind;
+mod laws;
+mod parts;
+mod plain;
+mod put;
+mod reading;
+mod writing;
+
+pub use decoding::decode;
+pub use encoding::encode;
+pub use fault::{BsonFault, EncodeFault};
+pub use laws::{flawless, no_prefix, one_document, read_again};

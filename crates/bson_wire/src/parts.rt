@@ -43,7 +43,7 @@ pub fn zero_of(at: u32, bytes: &[u8]) -> Result<&[u8], BsonFault>
 }
 
 /// All of the bytes as a text.
-#[tactic(auto, unfolding(crate::specs::Reading::text_at))]
+#[tactic(auto, using(crate::proofs::Texts::texts))]
 pub fn text_of(at: u32, bytes: &[u8]) -> Result<&str, BsonFault>
     requires { at + length bytes.now ≤ 48000000 }
     ensures { Gives (λ x. x.now) result (text_at at bytes.now) }

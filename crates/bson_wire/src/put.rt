@@ -67,6 +67,7 @@ fn put_string(out: &mut Vec<u8>, text: &str) -> Result<(), EncodeFault>
 }
 
 /// The kind of a value.
+#[tactic(auto, using(crate::proofs::Payloads::payloads))]
 pub fn kind_of(value: &Value) -> Kind
     ensures { result ≡ (payload value.now).0 }
 {

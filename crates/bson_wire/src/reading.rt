@@ -32,6 +32,7 @@ fn kind_of(start: u32, at: u32, byte: u8) -> Result<Kind, BsonFault>
 
 /// A document inside another, where so many levels are left.
 #[cycle(reading)]
+#[tactic(auto, unfolding(crate::specs::Reading::document_at))]
 fn document_of(
     alloc: Global,
     levels: u32,
@@ -53,6 +54,7 @@ fn document_of(
 
 /// What stands behind the length field of a document.
 #[cycle(reading)]
+#[tactic(auto, unfolding(crate::specs::Reading::body_at))]
 pub fn body_of(
     alloc: Global,
     levels: u32,
@@ -101,6 +103,7 @@ fn elements_of(
 
 /// What stands behind a type byte: a name and a value.
 #[cycle(reading)]
+#[tactic(auto, unfolding(crate::specs::Reading::element_at))]
 fn element_of(
     alloc: Global,
     levels: u32,
@@ -122,6 +125,7 @@ fn element_of(
 
 /// A value of a kind.
 #[cycle(reading)]
+#[tactic(auto, unfolding(crate::specs::Reading::value_at))]
 fn value_of(
     alloc: Global,
     levels: u32,
@@ -147,8 +151,9 @@ fn value_of(
     }
 }
 
-/// An array: the values of a document, whose names are looked at and not kept.
+/// An array inside a document, where so many levels are left.
 #[cycle(reading)]
+#[tactic(auto, unfolding(crate::specs::Reading::document_at))]
 fn array_of(
     alloc: Global,
     levels: u32,
@@ -165,12 +170,30 @@ fn array_of(
         return Err(BsonFault::Deep { at: start });
     }
     let (total, behind) = length_of(5, 4, end, bytes)?;
-    let (inside, after) = behind.split_at(total - 5);
+    array_body_of(alloc, levels - 1, start, total, behind)
+}
+
+/// What stands behind the length field of an array: elements whose names are looked at and not kept.
+#[cycle(reading)]
+fn array_body_of(
+    alloc: Global,
+    levels: u32,
+    start: u32,
+    total: usize,
+    bytes: &[u8],
+) -> Result<(Rows<Value>, &[u8]), BsonFault>
+    requires least { 5 ≤ total }
+    requires within { total ≤ length bytes.now + 4 }
+    requires small { start + total ≤ 48000000 }
+    ensures gives { Gives (λ x. (x.0, x.1.now)) result (unnamed_document (body_at (document_at levels) start total bytes.now)) }
+    ensures rest { IfOk result (λ x. length x.1.now ≤ length bytes.now) }
+{
+    let (inside, after) = bytes.split_at(total - 5);
     let span = Span {
         start,
         end: start as usize + total - 1,
     };
-    let items = items_of(alloc, levels - 1, span, inside)?;
+    let items = items_of(alloc, levels, span, inside)?;
     let rest = zero_of(start, after)?;
     Ok((items, rest))
 }
@@ -195,6 +218,7 @@ fn items_of(alloc: Global, levels: u32, span: Span, bytes: &[u8]) -> Result<Rows
 
 /// What stands behind a type byte in an array: a name, which is not kept, and a value.
 #[cycle(reading)]
+#[tactic(auto, unfolding(crate::specs::Reading::element_at))]
 fn item_of(
     alloc: Global,
     levels: u32,

@@ -5,9 +5,9 @@ use Rattle.bson_doc.specs.declared.name.Name.{Name}
 use Rattle.bson_doc.specs.declared.value.Document.{Document}
 use Rattle.bson_doc.specs.declared.value.Value.{Value}
 use Rattle.bson_wire.specs.declared.fault.BsonFault.{BsonFault}
-use Rattle.bson_wire.specs.declared.fault.BsonFault.TheVariants as fault
 use Rattle.bson_wire.specs.Spelling.{values}
 use Rattle.bson_wire.specs.Reading.{◌>>=◌, Read, Fails, behind_zero, element_at, elements_at, body_at, unnamed_element, unnamed_elements, unnamed_document}
+use Rattle.bson_wire.proofs.Steps.{Fails-bind, Fails-mapped, mapped-Ok}
 
 abbrev pub Element : Type 0
 Element = Name × Value
@@ -17,45 +17,6 @@ unnamed x = (x.0.1, x.1)
 
 abbrev pub document_of : List Element → Document
 document_of es = record { elements = es }
-
--- a fault stops what would follow
-pub Fails-bind : {A B : Type 0} (e : BsonFault) (r : Result A BsonFault) (f : A → Result B BsonFault) → Fails e r → Fails e (r >>= f)
-Fails-bind fault.Memory r f h = tt
-Fails-bind fault.Short r f h = rw h refl
-Fails-bind (fault.Length at) r f h = rw h refl
-Fails-bind (fault.Kind at byte) r f h = rw h refl
-Fails-bind (fault.Utf8 at) r f h = rw h refl
-Fails-bind (fault.Bool at byte) r f h = rw h refl
-Fails-bind (fault.Deep at) r f h = rw h refl
-
-abbrev pub mapped : {A B : Type 0} → (A → B) → Result A BsonFault → Result B BsonFault
-mapped g r = r >>= (λ x. Ok (g x))
-
--- the same the other way round, where what follows does not fail
-pub Fails-mapped : {A B : Type 0} (g : A → B) (e : BsonFault) (r : Result A BsonFault) → Fails e (mapped g r) → Fails e r
-Fails-mapped g fault.Memory r h = tt
-Fails-mapped g fault.Short (Ok x) h = absurd cc
-Fails-mapped g fault.Short (Err d) h = cc
-Fails-mapped g (fault.Length at) (Ok x) h = absurd cc
-Fails-mapped g (fault.Length at) (Err d) h = cc
-Fails-mapped g (fault.Kind at byte) (Ok x) h = absurd cc
-Fails-mapped g (fault.Kind at byte) (Err d) h = cc
-Fails-mapped g (fault.Utf8 at) (Ok x) h = absurd cc
-Fails-mapped g (fault.Utf8 at) (Err d) h = cc
-Fails-mapped g (fault.Bool at byte) (Ok x) h = absurd cc
-Fails-mapped g (fault.Bool at byte) (Err d) h = cc
-Fails-mapped g (fault.Deep at) (Ok x) h = absurd cc
-Fails-mapped g (fault.Deep at) (Err d) h = cc
-
-abbrev done : {A : Type 0} → A → Result A BsonFault
-done x = Ok x
-
-pub ok_is : {A : Type 0} (x y : A) → done x ≡ done y → x ≡ y
-ok_is x y e = cc
-
-pub mapped-Ok : {A B : Type 0} (g : A → B) (r : Result A BsonFault) (y : B) → mapped g r ≡ Ok y → (x : A) × (r ≡ Ok x) × (g x ≡ y)
-mapped-Ok g (Ok x) y h = (x, refl, ok_is (g x) y h)
-mapped-Ok g (Err d) y h = absurd cc
 
 -- the items of a loop: the elements, or their values
 pub record IsView {X : Type 0} (view : List Element → List X) (one : Element → X) : Type 0 where
@@ -79,10 +40,6 @@ regroup : {X : Type 0} (view : List Element → List X) (one : Element → X) �
     → with_front view front (read >>= (λ es. Ok (e ∷ es))) ≡ with_front view (front ++ one e ∷ []) read
 regroup {X = X} view one is front e (Ok es) = ap (λ (xs : List X). Ok (front ++ xs)) (is.more e es) ∙ ap (λ (xs : List X). Ok xs) (sym (append_assoc front (one e ∷ []) (view es)))
 regroup {X = X} view one is front e (Err d) = refl
-
-pub bind-Ok : {A : Type 0} (r : Result A BsonFault) → (r >>= (λ x. Ok x)) ≡ r
-bind-Ok (Ok x) = refl
-bind-Ok (Err d) = refl
 
 -- one element more
 step : {X : Type 0} (view : List Element → List X) (one : Element → X) → IsView view one → (R : ℕ → List ℕ → Read Document) (start end : ℕ) (front : List X) (byte : ℕ) (behind after : List ℕ) (e : Element) (total : Result (List X) BsonFault)

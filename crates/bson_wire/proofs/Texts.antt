@@ -13,7 +13,8 @@ use Rattle.std.proofs.lemmas.Str.{is_utf8-from_IsUtf8, IsUtf8-from_is_utf8}
 use Rattle.bson_doc.specs.Names.{HasNoZero}
 use Rattle.bson_wire.specs.declared.fault.BsonFault.{BsonFault}
 use Rattle.bson_wire.specs.declared.fault.BsonFault.TheVariants as fault
-use Rattle.bson_wire.specs.Reading.{text_at, until_zero}
+use Rattle.bson_wire.specs.Reading.{text_at, until_zero, or_fault}
+use Rattle.bson_wire.proofs.Steps.{ok_is, pass_ok}
 
 pub text_at-utf8 : (at : ℕ) (bytes : List ℕ) → IsUtf8 bytes → text_at at bytes ≡ Ok bytes
 unfolding text_at
@@ -25,16 +26,16 @@ text_at-not_utf8 at n bytes h e =
     cond-false (is_utf8 bytes) (Ok bytes) (Err (fault.Utf8 (at + utf8_valid_len bytes))) (false_from_ne_true (is_utf8 bytes) (λ t. h (IsUtf8-from_is_utf8 bytes t)))
     ∙ ap (λ (k : ℕ). Err (fault.Utf8 (at + k))) (sym e)
 
-guard_text : (b : Bool) (d : BsonFault) (x y : List ℕ) → cond b (Ok x) (Err d) ≡ Ok y → (b ≡ true) × (x ≡ y)
-guard_text true d x y e = (refl, cc)
-guard_text false d x y e = absurd cc
-
 -- What is read as a text is one, and is all of the bytes.
 pub text_at-Ok : (at : ℕ) (bytes text : List ℕ) → text_at at bytes ≡ Ok text → (bytes ≡ text) × IsUtf8 bytes
 unfolding text_at
 text_at-Ok at bytes text e =
-    let g = guard_text (is_utf8 bytes) (fault.Utf8 (at + utf8_valid_len bytes)) bytes text e in
+    let g = pass_ok (is_utf8 bytes) (fault.Utf8 (at + utf8_valid_len bytes)) bytes text e in
     (g.1, IsUtf8-from_is_utf8 bytes g.0)
+
+option_map-Some : {A B : Type 0} (g : A → B) (o : Option A) (y : B) → option_map g o ≡ Some y → (x : A) × (o ≡ Some x) × (g x ≡ y)
+option_map-Some g None y e = absurd cc
+option_map-Some g (Some x) y e = (x, refl, cc)
 
 abbrev is_zero : ℕ → Bool
 is_zero b = eqb b 0
@@ -62,6 +63,16 @@ zero_parts bytes i e =
     (parts, HasNoZero-from (take i bytes) (λ k lt.
         let below : k < i = omega (arith, length-take-le i bytes (omega (arith, p.0))) in
         rw (get_or-take i bytes k 0 below) (p.2 k below)))
+
+-- The same of the two parts.
+pub until_zero-Some : (bytes : List ℕ) (x : List ℕ × List ℕ) → until_zero bytes ≡ Some x → (bytes ≡ x.0 ++ 0 ∷ x.1) × HasNoZero x.0
+until_zero-Some bytes x e =
+    let found = option_map-Some (λ i. (take i bytes, drop (i + 1) bytes)) (position is_zero bytes) x e in
+    subst (λ (y : List ℕ × List ℕ). (bytes ≡ y.0 ++ 0 ∷ y.1) × HasNoZero y.0) found.2 (zero_parts bytes found.0 found.1)
+
+pub or_fault-Ok : (f : BsonFault) (o : Option (List ℕ × List ℕ)) (x : List ℕ × List ℕ) → or_fault f o ≡ Ok x → o ≡ Some x
+or_fault-Ok f None x e = absurd cc
+or_fault-Ok f (Some y) x e = ap (λ (z : List ℕ × List ℕ). Some z) (ok_is y x e)
 
 -- A name with 00 behind it is found again, whatever follows.
 pub until_zero-name : (name rest : List ℕ) → HasNoZero name → until_zero (name ++ 0 ∷ rest) ≡ Some (name, rest)

@@ -5,3 +5,4 @@ pub mod Loop
 pub mod Fields
 pub mod Documents
 pub mod Outermost
+pub mod WrittenLemmas

@@ -8,8 +8,8 @@ use Rattle.bson_doc.specs.declared.value.Document.{Document}
 use Rattle.bson_wire.specs.declared.fault.BsonFault.{BsonFault}
 use Rattle.bson_wire.specs.declared.fault.BsonFault.TheVariants as fault
 use Rattle.bson_wire.specs.Spelling.{IsInt32, SpellsWithin, Spells}
-use Rattle.bson_wire.specs.Reading.{◌>>=◌, body_at, document_at, read, fault_of, flaw}
-use Rattle.bson_wire.proofs.Steps.{ok_is, err_or}
+use Rattle.bson_wire.specs.Reading.{◌>>=◌, body_at, document_at, read, fault_of, flaw, Fails}
+use Rattle.bson_wire.proofs.Steps.{ok_is, err_or, Fails-Ok, Fails-Err}
 use Rattle.bson_wire.proofs.Documents.{Reader, body_takes, body_again, document_takes, document_again}
 
 -- what was taken for the outermost document
@@ -66,3 +66,56 @@ read_again text more d spells =
     let range : (ltb n 5 || ltb 48000000 n) ≡ false = or_from _ _ (le-ltb n 5 (omega arith)) (le-ltb 48000000 n small) in
     let there : ltb (length all) n ≡ false = le-ltb _ _ (omega (arith, count)) in
     ap read regrouped ∙ rw (four, front, h.counts.reads, range, there, back) (body_again (document_at 99) (SpellsWithin 99) (document_again 99) 0 h.body more d h.elements)
+
+-- ---- what decode says
+
+pub is_found : (bytes : List ℕ) (d : Document) (rest : List ℕ) → read bytes ≡ Ok (d, rest) → (length bytes - length rest ≤ length bytes) × Spells (take (length bytes - length rest) bytes) d
+is_found bytes d rest e =
+    let t = read_takes bytes (d, rest) e in
+    let count : length bytes - length rest ≡ length t.text = omega (arith, ap length t.parts, length-append t.text rest) in
+    let front : take (length bytes - length rest) bytes ≡ t.text =
+    ap (λ (n : ℕ). take n bytes) count ∙ ap (λ (xs : List ℕ). take (length t.text) xs) t.parts ∙ take_at t.text rest (length t.text) refl in
+    (omega arith, subst (λ (xs : List ℕ). Spells xs d) (sym front) t.spells)
+
+pub is_only : (bytes : List ℕ) (d : Document) (rest text more : List ℕ) (document : Document) → read bytes ≡ Ok (d, rest) → bytes ≡ text ++ more → Spells text document → ◌≡◌ {A = Document × ℕ} (d, length bytes - length rest) (document, length text)
+is_only bytes d rest text more document e parts spells =
+    let same : ◌≡◌ {A = Document × List ℕ} (d, rest) (document, more) = ok_is (d, rest) (document, more) (sym e ∙ ap read parts ∙ read_again text more document spells) in
+    let count : length bytes - length rest ≡ length text = omega (arith, ap length (ap (λ (p : Document × List ℕ). p.1) same), ap length parts, length-append text more) in
+    ap (λ (x : Document). (x, length bytes - length rest)) (ap (λ (p : Document × List ℕ). p.0) same) ∙ ap (λ (n : ℕ). (document, n)) count
+
+pub is_sound : (bytes : List ℕ) (x : Document × List ℕ) → read bytes ≡ Ok x → flaw bytes ≡ None
+unfolding flaw
+is_sound bytes x e = ap fault_of e
+
+pub is_memory : (e : BsonFault) (bytes text more : List ℕ) (d : Document) → Fails e (read bytes) → bytes ≡ text ++ more → Spells text d → e ≡ fault.Memory
+is_memory e bytes text more d fails parts spells = Fails-Ok e (read bytes) (d, more) fails (ap read parts ∙ read_again text more d spells)
+
+pub is_flaw : (e : BsonFault) (bytes : List ℕ) → Fails e (read bytes) → (e ≡ fault.Memory → ⊥) → flaw bytes ≡ Some e
+unfolding flaw
+is_flaw e bytes fails other = ap fault_of (Fails-Err e (read bytes) fails other)
+
+-- ---- the laws
+
+pub one_document : (bytes : List ℕ) (a b : Document) → Spells bytes a → Spells bytes b → a ≡ b
+one_document bytes a b x y =
+    let same : ◌≡◌ {A = Document × List ℕ} (a, []) (b, []) = ok_is {A = Document × List ℕ} (a, []) (b, []) (sym (read_again bytes [] a x) ∙ read_again bytes [] b y) in
+    ap (λ (p : Document × List ℕ). p.0) same
+
+pub no_prefix : (bytes more : List ℕ) (a b : Document) → Spells bytes a → Spells (bytes ++ more) b → more ≡ []
+no_prefix bytes more a b x y =
+    let longer : read (bytes ++ (more ++ [])) ≡ Ok (b, []) = ap read (sym (append_assoc bytes more [])) ∙ read_again (bytes ++ more) [] b y in
+    let same : ◌≡◌ {A = Document × List ℕ} (a, more ++ []) (b, []) = ok_is {A = Document × List ℕ} (a, more ++ []) (b, []) (sym (read_again bytes (more ++ []) a x) ∙ longer) in
+    sym (append-nil more) ∙ ap (λ (p : Document × List ℕ). p.1) same
+
+no_fault : {A : Type 0} (r : Result A BsonFault) → fault_of r ≡ None → (x : A) × (r ≡ Ok x)
+no_fault (Ok x) e = (x, refl)
+no_fault (Err f) e = absurd cc
+
+pub has_spelling : (bytes : List ℕ) → flaw bytes ≡ None → (n : ℕ) × (document : Document) × Spells (take n bytes) document
+unfolding flaw
+has_spelling bytes e =
+    let x = no_fault (read bytes) e in
+    (length bytes - length x.0.1, x.0.0, (is_found bytes x.0.0 x.0.1 x.1).1)
+
+pub has_no_flaw : (bytes : List ℕ) → (n : ℕ) × (document : Document) × Spells (take n bytes) document → flaw bytes ≡ None
+has_no_flaw bytes h = is_sound bytes (h.1, drop h.0 bytes) (ap read (sym (take-append-drop h.0 bytes)) ∙ read_again (take h.0 bytes) (drop h.0 bytes) h.1 h.2)

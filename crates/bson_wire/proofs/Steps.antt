@@ -65,3 +65,23 @@ pass_ok false d x y e = absurd cc
 pub err_or : {A : Type 0} (b : Bool) (d : BsonFault) (r : Result A BsonFault) (y : A) → cond b (Err d) r ≡ Ok y → (b ≡ false) × (r ≡ Ok y)
 err_or true d r y e = absurd cc
 err_or false d r y e = (refl, e)
+
+-- an Ok is read where memory alone was wanting
+pub Fails-Ok : {A : Type 0} (e : BsonFault) (r : Result A BsonFault) (x : A) → Fails e r → r ≡ Ok x → e ≡ fault.Memory
+Fails-Ok fault.Memory r x h k = refl
+Fails-Ok fault.Short r x h k = absurd cc
+Fails-Ok (fault.Length at) r x h k = absurd cc
+Fails-Ok (fault.Kind at byte) r x h k = absurd cc
+Fails-Ok (fault.Utf8 at) r x h k = absurd cc
+Fails-Ok (fault.Bool at byte) r x h k = absurd cc
+Fails-Ok (fault.Deep at) r x h k = absurd cc
+
+-- else the fault itself
+pub Fails-Err : {A : Type 0} (e : BsonFault) (r : Result A BsonFault) → Fails e r → (e ≡ fault.Memory → ⊥) → r ≡ Err e
+Fails-Err fault.Memory r h other = absurd (other refl)
+Fails-Err fault.Short r h other = h
+Fails-Err (fault.Length at) r h other = h
+Fails-Err (fault.Kind at byte) r h other = h
+Fails-Err (fault.Utf8 at) r h other = h
+Fails-Err (fault.Bool at byte) r h other = h
+Fails-Err (fault.Deep at) r h other = h

@@ -37,10 +37,10 @@ option_map-Some : {A B : Type 0} (g : A → B) (o : Option A) (y : B) → option
 option_map-Some g None y e = absurd cc
 option_map-Some g (Some x) y e = (x, refl, cc)
 
-abbrev is_zero : ℕ → Bool
+abbrev pub is_zero : ℕ → Bool
 is_zero b = eqb b 0
 
-HasNoZero-from : (bytes : List ℕ) → ((k : ℕ) → k < length bytes → is_zero (get_or bytes k 0) ≡ false) → HasNoZero bytes
+pub HasNoZero-from : (bytes : List ℕ) → ((k : ℕ) → k < length bytes → is_zero (get_or bytes k 0) ≡ false) → HasNoZero bytes
 HasNoZero-from bytes h =
     let e = position_or_len_is is_zero bytes (length bytes) 0 (omega arith) h (λ lt. absurd (omega arith)) in
     cond-false _ _ _ (le-ltb (position_or_len is_zero bytes) (length bytes) (omega (arith, e)))

@@ -1,5 +1,5 @@
 -- The one spelling of a document in which the names of an array are "0", "1" and so on (bsonspec 1.1, array).
-use Rattle.std.specs.Prelude.{ℕ, suc, ◌+◌, List, [], ◌∷◌, ◌++◌, length, decimal}
+use Rattle.std.specs.Prelude.{ℕ, suc, ◌+◌, List, [], ◌∷◌, ◌++◌, length, map, decimal}
 use Rattle.std.specs.Int.{w32, cast_unsigned}
 use Rattle.byteorder.specs.Endian.{little_bytes}
 use Rattle.bson_doc.specs.declared.name.Name.{Name}
@@ -67,3 +67,7 @@ spelled_elements (e ∷ es) = element e.0 (payload e.1) ++ spelled_elements es
 -- The spelling of the document.
 abbrev pub spelled : Document → List ℕ
 spelled d = document (spelled_elements d.elements)
+
+-- The payload of an array with the items.
+abbrev pub spelled_items : List Value → List ℕ
+spelled_items items = document (numbered 0 (map payload items))

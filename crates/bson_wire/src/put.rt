@@ -41,6 +41,25 @@ fn put_number(out: &mut Vec<u8>, n: u32) -> Result<(), EncodeFault>
     put_bytes(out, &number)
 }
 
+/// A number of four bytes, over those that stand at the place.
+fn set_number(out: &mut Vec<u8>, at: usize, n: u32)
+    requires { at + 4 ≤ vec_len out.old }
+    ensures { out.new.items ≡ (take at out.old.items ++ int32 n) ++ drop (at + 4) out.old.items }
+{
+    let mut number = [0; 4];
+    LittleEndian::write_u32(&mut number, n);
+    out[at..at + 4].copy_from_slice(&number);
+}
+
+/// Eight bytes.
+fn put_double(out: &mut Vec<u8>, raw: &[u8; 8]) -> Result<(), EncodeFault>
+    ensures ok { OnOk result (out.new.items ≡ out.old.items ++ raw.now) }
+    ensures err { IfErr result (λ e. e ≡ EncodeFault.Memory) }
+    ensures eight { length raw.now ≡ 8 }
+{
+    put_bytes(out, raw)
+}
+
 /// A signed number of four bytes.
 fn put_int32(out: &mut Vec<u8>, n: &i32) -> Result<(), EncodeFault>
     ensures ok { OnOk result (out.new.items ≡ out.old.items ++ int32 (cast_unsigned w32 n.now)) }
@@ -89,7 +108,7 @@ pub fn put_plain(out: &mut Vec<u8>, value: &Value) -> Result<(), EncodeFault>
     ensures known { OnOk result (PayloadSpells value.now) }
 {
     match value {
-        Value::Double(raw) => put_bytes(out, raw),
+        Value::Double(raw) => put_double(out, raw),
         Value::Str(text) => put_string(out, text.as_str()),
         Value::Bool(truth) => put_byte(out, u8::from(*truth)),
         Value::Int32(n) => put_int32(out, n),
@@ -109,6 +128,6 @@ pub fn end_document(out: &mut Vec<u8>, start: usize) -> Result<(), EncodeFault>
     if total > MOST_BYTES {
         return Err(EncodeFault::Long);
     }
-    LittleEndian::write_u32(&mut out[start..], total as u32);
+    set_number(out, start, total as u32);
     Ok(())
 }

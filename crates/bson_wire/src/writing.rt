@@ -2,8 +2,7 @@
 
 ghost use Rattle.std.specs.Prelude.{◌≡◌, ◌≤◌, ◌+◌, ◌∷◌, [], ◌++◌, length, take, drop, vec_len, OnOk, IfErr};
 ghost use Rattle.std.specs.List.{AllByRecursion};
-ghost use Rattle.bson_doc.specs.declared.value.Value.{Array};
-ghost use Rattle.bson_wire.specs.Spelled.{element, payload, spelled};
+ghost use Rattle.bson_wire.specs.Spelled.{element, payload, spelled, spelled_items};
 ghost use Rattle.bson_wire.specs.Written.{Stops, PayloadSpells, ElementSpells};
 
 use crate::EncodeFault;
@@ -29,8 +28,9 @@ pub fn put_document(out: &mut Vec<u8>, document: &Document) -> Result<(), Encode
 /// An array: a document whose names are "0", "1" and so on.
 #[cycle(writing)]
 fn put_array(out: &mut Vec<u8>, items: &[Value]) -> Result<(), EncodeFault>
-    ensures ok { OnOk result (out.new.items ≡ out.old.items ++ (payload (Array items.now)).1) }
-    ensures long { IfErr result (Stops (length (payload (Array items.now)).1)) }
+    ensures ok { OnOk result (out.new.items ≡ out.old.items ++ spelled_items items.now) }
+    ensures size { OnOk result (length (spelled_items items.now) ≤ 48000000) }
+    ensures long { IfErr result (Stops (length (spelled_items items.now))) }
     ensures known { OnOk result (AllByRecursion PayloadSpells items.now) }
 {
     let start = out.len();

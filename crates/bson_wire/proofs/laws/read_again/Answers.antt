@@ -1,0 +1,5 @@
+use Rattle.bson_wire.proofs.Outermost.{read_again}
+use Rattle.bson_wire.proofs.laws.read_again.Goals as goal
+
+pub returns : goal.returns
+returns c = read_again

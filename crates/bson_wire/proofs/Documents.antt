@@ -116,8 +116,8 @@ picked : (b n : ℕ) (kind found : Kind) (others : Option Kind) → byte_of foun
 picked b n kind found others e h picks =
     elim (cases_Bool (eqb b n)) [
       | inl hit ↦
-        let same : found ≡ kind = some_is found kind (sym (cond-true (eqb b n) (Some found) others hit) ∙ picks) in
-        eqb-true b n hit ∙ sym e ∙ ap byte_of same
+          let same : found ≡ kind = some_is found kind (sym (cond-true (eqb b n) (Some found) others hit) ∙ picks) in
+          eqb-true b n hit ∙ sym e ∙ ap byte_of same
       | inr no_kind_here ↦ h (sym (cond-false (eqb b n) (Some found) others no_kind_here) ∙ picks)
     ]
 

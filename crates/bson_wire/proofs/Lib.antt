@@ -5,4 +5,4 @@ pub mod Loop
 pub mod Fields
 pub mod Documents
 pub mod Outermost
-pub mod WrittenLemmas
+pub mod Written

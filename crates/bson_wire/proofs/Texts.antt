@@ -59,10 +59,12 @@ zero_parts bytes i e =
     let zero_here : get_or bytes i 0 ≡ 0 = eqb-true _ _ p.1 in
     let more : drop i bytes ≡ get_or bytes i 0 ∷ drop (i + 1) bytes = drop_more bytes i 0 p.0 in
     let parts : bytes ≡ take i bytes ++ 0 ∷ drop (i + 1) bytes =
-    sym (take-append-drop i bytes) ∙ ap (λ (xs : List ℕ). take i bytes ++ xs) (more ∙ ap (λ (b : ℕ). b ∷ drop (i + 1) bytes) zero_here) in
-    (parts, HasNoZero-from (take i bytes) (λ k lt.
-        let below : k < i = omega (arith, length-take-le i bytes (omega (arith, p.0))) in
-        rw (get_or-take i bytes k 0 below) (p.2 k below)))
+    sym (take-append-drop i bytes) ∙ ap (λ (xs : List ℕ). take i bytes ++ xs) (more ∙ ap (λ (b : ℕ). b ∷ drop (i + 1) bytes) zero_here) in (
+      parts,
+      HasNoZero-from (take i bytes) (λ k lt.
+          let below : k < i = omega (arith, length-take-le i bytes (omega (arith, p.0))) in
+          rw (get_or-take i bytes k 0 below) (p.2 k below)),
+    )
 
 -- The same of the two parts.
 pub until_zero-Some : (bytes : List ℕ) (x : List ℕ × List ℕ) → until_zero bytes ≡ Some x → (bytes ≡ x.0 ++ 0 ∷ x.1) × HasNoZero x.0
@@ -80,8 +82,8 @@ until_zero-name name rest h =
     let all : List ℕ = name ++ 0 ∷ rest in
     let e : position_or_len is_zero all ≡ length name =
     position_or_len_is is_zero all (length name) 0 (omega (arith, length-append name (0 ∷ rest)))
-        (λ k lt. rw (get_or_append_left name (0 ∷ rest) 0 k lt) (HasNoZero-at name k h lt))
-        (λ lt. eq-eqb _ _ (get_or_at name 0 rest 0 (length name) refl)) in
+    (λ k lt. rw (get_or_append_left name (0 ∷ rest) 0 k lt) (HasNoZero-at name k h lt))
+    (λ lt. eq-eqb _ _ (get_or_at name 0 rest 0 (length name) refl)) in
     let found : position is_zero all ≡ Some (length name) =
     cond-true _ _ _ (lt-ltb (position_or_len is_zero all) (length all) (omega (arith, e, length-append name (0 ∷ rest)))) ∙ ap (λ (k : ℕ). Some k) e in
     let front : take (length name) all ≡ name = take_at name (0 ∷ rest) (length name) refl in

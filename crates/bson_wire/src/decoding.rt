@@ -4,17 +4,11 @@ ghost use Rattle.bson_wire.specs.Spelling.{Spells};
 ghost use Rattle.bson_wire.specs.Reading.{Gives, read, flaw};
 
 use crate::BsonFault;
-use crate::parts::bytes_of;
+use crate::limits::{MOST_BYTES, MOST_LEVELS};
 use crate::reading::body_of;
 use bson_doc::Document;
 use byteorder::{ByteOrder, LittleEndian};
 use std::alloc::Global;
-
-/// The greatest total of a document.
-const MOST_BYTES: usize = 48_000_000;
-
-/// How many levels may lie inside the outermost document.
-const LEVELS_INSIDE: u32 = 99;
 
 /// Reads the document at the front of the bytes, and gives its length. No byte behind the document is read.
 pub fn decode(alloc: Global, bytes: &[u8]) -> Result<(Document, usize), BsonFault>
@@ -33,6 +27,7 @@ pub fn decode(alloc: Global, bytes: &[u8]) -> Result<(Document, usize), BsonFaul
     Ok((document, bytes.len() - rest.len()))
 }
 
+/// The outermost document, and the bytes behind it.
 #[tactic(auto, unfolding(crate::specs::Reading::read))]
 fn outermost(alloc: Global, bytes: &[u8]) -> Result<(Document, &[u8]), BsonFault>
     ensures gives { Gives (λ x. (x.0, x.1.now)) result (read bytes.now) }
@@ -49,5 +44,5 @@ fn outermost(alloc: Global, bytes: &[u8]) -> Result<(Document, &[u8]), BsonFault
     if bytes.len() < total {
         return Err(BsonFault::Short);
     }
-    body_of(alloc, LEVELS_INSIDE, 0, total, behind)
+    body_of(alloc, MOST_LEVELS - 1, 0, total, behind)
 }

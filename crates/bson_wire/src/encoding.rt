@@ -5,12 +5,10 @@ ghost use Rattle.bson_wire.specs.Spelled.{spelled};
 ghost use Rattle.bson_wire.specs.Reading.{read};
 
 use crate::EncodeFault;
+use crate::limits::MOST_LEVELS;
 use crate::writing::put_document;
 use bson_doc::{Bytes, Document};
 use std::alloc::Global;
-
-/// How many levels a document may have.
-const MOST_LEVELS: u32 = 100;
 
 /// The spelling of the document in which the names of an array are "0", "1" and so on.
 pub fn encode(alloc: Global, doc: &Document) -> Result<Bytes, EncodeFault>

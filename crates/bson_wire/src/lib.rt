@@ -17,6 +17,7 @@ mod encoding;
 mod fault;
 mod kind;
 mod laws;
+mod limits;
 mod parts;
 mod plain;
 mod put;

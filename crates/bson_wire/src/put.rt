@@ -7,11 +7,9 @@ ghost use Rattle.bson_wire.specs.Written.{Stops, PayloadSpells, IsPlain};
 
 use crate::EncodeFault;
 use crate::kind::{Kind, PlainKind};
+use crate::limits::MOST_BYTES;
 use bson_doc::Value;
 use byteorder::{ByteOrder, LittleEndian};
-
-/// The greatest total of a document.
-const MOST_BYTES: usize = 48_000_000;
 
 /// A byte.
 pub fn put_byte(out: &mut Vec<u8>, byte: u8) -> Result<(), EncodeFault>

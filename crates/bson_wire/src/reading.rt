@@ -1,6 +1,6 @@
 //! Documents and arrays, and the values, elements and bodies inside them. Each reader goes from the left to the right.
 
-ghost use Rattle.std.specs.Prelude.{ℕ, ◌≡◌, ◌≤◌, ◌+◌, ◌<◌, length, IfOk};
+ghost use Rattle.std.specs.Prelude.{ℕ, ◌≡◌, ◌≤◌, ◌+◌, ◌-◌, ◌<◌, length, take, drop, IfOk};
 ghost use Rattle.bson_wire.specs.Reading.{Gives, unnamed_element, unnamed_elements, unnamed_document, kind_at, value_at, element_at, elements_at, body_at, document_at};
 
 use crate::BsonFault;
@@ -17,6 +17,32 @@ pub struct Span {
     pub start: u32,
     /// The place where the bytes of its elements end.
     pub end: usize,
+}
+
+impl Span {
+    /// The elements of a document of that total, whose length stands at `start`. Its last byte is kept for its 00.
+    fn of(start: u32, total: usize) -> Span
+        requires least { 5 ≤ total }
+        requires small { start + total ≤ 48000000 }
+        ensures start { result.start ≡ start }
+        ensures end { result.end ≡ start + total - 1 }
+    {
+        Span {
+            start,
+            end: start as usize + total - 1,
+        }
+    }
+}
+
+/// The elements of a document of that total and the bytes from its last one on, of the bytes behind its length.
+fn split_body(total: usize, bytes: &[u8]) -> (&[u8], &[u8])
+    requires least { 5 ≤ total }
+    requires within { total ≤ length bytes.now + 4 }
+    ensures elements { result.0.now ≡ take (total - 5) bytes.now }
+    ensures count { length result.0.now + 5 ≡ total }
+    ensures last { result.1.now ≡ drop (total - 5) bytes.now }
+{
+    bytes.split_at(total - 5)
 }
 
 /// The kind of the type byte at a place.
@@ -68,12 +94,8 @@ pub fn body_of(
     ensures gives { Gives (λ x. (x.0, x.1.now)) result (body_at (document_at levels) start total bytes.now) }
     ensures rest { IfOk result (λ x. length x.1.now ≤ length bytes.now) }
 {
-    let (inside, after) = bytes.split_at(total - 5);
-    let span = Span {
-        start,
-        end: start as usize + total - 1,
-    };
-    let elements = elements_of(alloc, levels, span, inside)?;
+    let (inside, after) = split_body(total, bytes);
+    let elements = elements_of(alloc, levels, Span::of(start, total), inside)?;
     let rest = zero_of(start, after)?;
     Ok((Document { elements }, rest))
 }
@@ -188,12 +210,8 @@ fn array_body_of(
     ensures gives { Gives (λ x. (x.0, x.1.now)) result (unnamed_document (body_at (document_at levels) start total bytes.now)) }
     ensures rest { IfOk result (λ x. length x.1.now ≤ length bytes.now) }
 {
-    let (inside, after) = bytes.split_at(total - 5);
-    let span = Span {
-        start,
-        end: start as usize + total - 1,
-    };
-    let items = items_of(alloc, levels, span, inside)?;
+    let (inside, after) = split_body(total, bytes);
+    let items = items_of(alloc, levels, Span::of(start, total), inside)?;
     let rest = zero_of(start, after)?;
     Ok((items, rest))
 }

@@ -2,7 +2,7 @@ use Rattle.std.proofs.Common.{◌≤◌, ◌++◌, List, ℕ, ap, ◌∙◌, ari
 use Rattle.bson_doc.specs.Documents.{depth_of}
 use Rattle.bson_wire.specs.Spelled.{spelled}
 use Rattle.bson_wire.proofs.Outermost.{read_again}
-use Rattle.bson_wire.proofs.WrittenLemmas.{outermost_spells}
+use Rattle.bson_wire.proofs.Written.{outermost_spells}
 use Rattle.bson_wire.proofs.encoding.encode.Goals as goal
 
 pub returns-clause-spells : goal.returns-clause-spells

@@ -2,7 +2,7 @@ use Rattle.std.proofs.Common.{sym, ap, ◌∙◌}
 use Rattle.std.proofs.lemmas.Result.{on_ok_weaker}
 use Rattle.bson_doc.specs.declared.value.Value.TheVariants as value
 use Rattle.bson_wire.proofs.Payloads.{payload-Double, payload-Str, payload-Bool, payload-Int32}
-use Rattle.bson_wire.proofs.WrittenLemmas.{OnOk-from, truth_is, double_spells, string_spells, bool_spells, int32_spells}
+use Rattle.bson_wire.proofs.Written.{OnOk-from, truth_is, double_spells, string_spells, bool_spells, int32_spells}
 use Rattle.bson_wire.proofs.put.put_plain.Goals as goal
 
 pub returns-in-Double-clause-ok : goal.returns-in-Double-clause-ok

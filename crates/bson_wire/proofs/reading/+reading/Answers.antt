@@ -52,23 +52,18 @@ items_of-returns t c = λ fuel le. is_done values (λ e. e.1) values_view (docum
 pub array_body_of-returns-in_err-items-clause-gives : goal.array_body_of-returns-in_err-items-clause-gives
 array_body_of-returns-in_err-items-clause-gives t c =
     let p = err_from_is_err_and c.from_residual.result c.from_residual.ensures.1 in
-    let e = c.in_err-items.field-0.0 in
-    let h = c.in_err-items.ensures c.args.total (omega (arith, c.split_at.ensures.front_len)) in
-    rw (p.1, p.2) (unnamed_body-elements (document_at c.args.levels) c.args.start c.args.total c.args.bytes.now e
-        (subst (λ (xs : List ℕ). Fails e (unnamed_elements (elements_at (document_at c.args.levels) c.args.total c.args.start (c.args.start + c.args.total - 1) xs))) c.split_at.ensures.front h))
+    let h = rw (c.of.ensures.start, c.of.ensures.end, c.split_body.ensures.elements) at (c.in_err-items.ensures c.args.total (omega (arith, c.split_body.ensures.count))) in
+    rw (p.1, p.2) (unnamed_body-elements (document_at c.args.levels) c.args.start c.args.total c.args.bytes.now c.in_err-items.field-0.0 h)
 
 pub array_body_of-returns-in_err-rest-clause-gives : goal.array_body_of-returns-in_err-rest-clause-gives
 array_body_of-returns-in_err-rest-clause-gives t c =
     let p = err_from_is_err_and c.from_residual-in_err-rest.result c.from_residual-in_err-rest.ensures.1 in
-    let e = c.in_err-rest.field-0.0 in
-    let h = c.in_ok-items.ensures c.args.total (omega (arith, c.split_at.ensures.front_len)) in
-    rw (p.1, p.2) (unnamed_body-end (document_at c.args.levels) c.args.start c.args.total c.args.bytes.now c.in_ok-items.items e
-        (subst (λ (xs : List ℕ). unnamed_elements (elements_at (document_at c.args.levels) c.args.total c.args.start (c.args.start + c.args.total - 1) xs) ≡ Ok c.in_ok-items.items) c.split_at.ensures.front h)
-        (subst (λ (xs : List ℕ). Fails e (behind_zero c.args.start xs)) c.split_at.ensures.back c.in_err-rest.ensures.gives))
+    let h = rw (c.of.ensures.start, c.of.ensures.end, c.split_body.ensures.elements) at (c.in_ok-items.ensures c.args.total (omega (arith, c.split_body.ensures.count))) in
+    let no_end = rw c.split_body.ensures.last at c.in_err-rest.ensures.gives in
+    rw (p.1, p.2) (unnamed_body-end (document_at c.args.levels) c.args.start c.args.total c.args.bytes.now c.in_ok-items.items c.in_err-rest.field-0.0 h no_end)
 
 pub array_body_of-returns-clause-gives : goal.array_body_of-returns-clause-gives
 array_body_of-returns-clause-gives t c =
-    let h = c.in_ok-items.ensures c.args.total (omega (arith, c.split_at.ensures.front_len)) in
-    unnamed_body-Ok (document_at c.args.levels) c.args.start c.args.total c.args.bytes.now c.in_ok-items.items c.in_ok-rest.rest.now
-        (subst (λ (xs : List ℕ). unnamed_elements (elements_at (document_at c.args.levels) c.args.total c.args.start (c.args.start + c.args.total - 1) xs) ≡ Ok c.in_ok-items.items) c.split_at.ensures.front h)
-        (subst (λ (xs : List ℕ). behind_zero c.args.start xs ≡ Ok c.in_ok-rest.rest.now) c.split_at.ensures.back c.in_ok-rest.ensures.gives)
+    let h = rw (c.of.ensures.start, c.of.ensures.end, c.split_body.ensures.elements) at (c.in_ok-items.ensures c.args.total (omega (arith, c.split_body.ensures.count))) in
+    let at_end = rw c.split_body.ensures.last at c.in_ok-rest.ensures.gives in
+    unnamed_body-Ok (document_at c.args.levels) c.args.start c.args.total c.args.bytes.now c.in_ok-items.items c.in_ok-rest.rest.now h at_end

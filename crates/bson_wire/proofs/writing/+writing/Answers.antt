@@ -6,7 +6,7 @@ use Rattle.bson_wire.specs.Spelling.{IsName}
 use Rattle.bson_wire.specs.Spelled.{element, numbered, payload, spelled_elements}
 use Rattle.bson_wire.specs.Written.{ElementSpells, PayloadSpells}
 use Rattle.bson_wire.proofs.Payloads.{payload-Doc, payload-Array}
-use Rattle.bson_wire.proofs.WrittenLemmas.{OnOk-both, stops_more, doc_spells, array_spells, elements_left, items_left, writes_more, known_more, part-le}
+use Rattle.bson_wire.proofs.Written.{OnOk-both, stops_more, doc_spells, array_spells, elements_left, items_left, writes_more, known_more, part-le}
 use Rattle.bson_wire.proofs.writing.+writing.Goals as goal
 
 pub put_array-returns-in_err-put_element-clause-long : goal.put_array-returns-in_err-put_element-clause-long

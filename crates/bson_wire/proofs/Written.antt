@@ -64,7 +64,7 @@ pub string_spells : (v : Value) (text : List ℕ) → v ≡ value.Str text → I
 string_spells v text e utf8 small =
     let size : length (string text) ≡ length text + 5 = omega (arith, length-append text (0 ∷ [])) in
     spells_by v _ _ (payload-Str v text e) (ap out-Value e ∙ outs-Str text) (λ levels deep.
-        (refl, record { number = int32 (length text + 1); counts = int32_is (length text + 1) (omega (arith, size)); parts = refl; utf8 = utf8 }))
+    (refl, record { number = int32 (length text + 1); counts = int32_is (length text + 1) (omega (arith, size)); parts = refl; utf8 = utf8 }))
 
 pub bool_spells : (v : Value) (b : Bool) → v ≡ value.Bool b → PayloadSpells v
 bool_spells v b e = spells_by v _ _ (payload-Bool v b e) (ap out-Value e ∙ outs-Bool b) (λ levels deep. (refl, refl))
@@ -158,8 +158,8 @@ more_digits ds b are le k lt =
     elim (cases_lt k (length ds)) [
       | inl less ↦ rw (get_or_append_left ds (b ∷ []) 0 k less) (are k less)
       | inr past ↦
-        let last : length ds ≡ k = omega (arith, length_push ds b) in
-        rw (get_or_push ds b 0 k last) le
+          let last : length ds ≡ k = omega (arith, length_push ds b) in
+          rw (get_or_push ds b 0 k last) le
     ]
 
 decimal_digits : (i : ℕ) → i < 2 ^ 64 → AreDigits (decimal i)

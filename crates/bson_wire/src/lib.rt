@@ -22,6 +22,8 @@ mod parts;
 mod plain;
 mod put;
 mod reading;
+#[cfg(test)]
+mod tests;
 mod writing;
 
 pub use decoding::decode;

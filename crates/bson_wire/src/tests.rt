@@ -107,7 +107,7 @@ fn reads(rt: &impl Abort, alloc: Global, rows: &[(&str, usize)]) -> Result<(), F
 
 #[test]
 fn totals(rt: HostRuntime) -> Result<(), Fail> {
-    let rows = [
+    static ROWS: [(&str, BsonFault); 11] = [
         ("", BsonFault::Short),
         ("05 00 00", BsonFault::Short),
         ("00 00 00 00", BsonFault::Length { at: 0 }),
@@ -120,12 +120,12 @@ fn totals(rt: HostRuntime) -> Result<(), Fail> {
         ("00 6c dc 02", BsonFault::Short),
         ("01 6c dc 02", BsonFault::Length { at: 0 }),
     ];
-    refuses(&rt, rt.alloc(), &rows)
+    refuses(&rt, rt.alloc(), &ROWS)
 }
 
 #[test]
 fn ends_of_documents(rt: HostRuntime) -> Result<(), Fail> {
-    let rows = [
+    static ROWS: [(&str, BsonFault); 11] = [
         ("05 00 00 00 01", BsonFault::Length { at: 0 }),
         ("06 00 00 00 00 00", BsonFault::Length { at: 0 }),
         ("06 00 00 00 08 00", BsonFault::Length { at: 0 }),
@@ -146,12 +146,12 @@ fn ends_of_documents(rt: HostRuntime) -> Result<(), Fail> {
         ("08 00 00 00 08 61 62 00", BsonFault::Length { at: 0 }),
         ("08 00 00 00 08 ff fe 00", BsonFault::Length { at: 0 }),
     ];
-    refuses(&rt, rt.alloc(), &rows)
+    refuses(&rt, rt.alloc(), &ROWS)
 }
 
 #[test]
 fn names_in_utf8(rt: HostRuntime) -> Result<(), Fail> {
-    let rows = [
+    static ROWS: [(&str, BsonFault); 8] = [
         ("09 00 00 00 08 ff 00 01 00", BsonFault::Utf8 { at: 5 }),
         ("0a 00 00 00 08 61 ff 00 01 00", BsonFault::Utf8 { at: 6 }),
         // a continuation alone, an overlong form, one that is cut, a surrogate, one past the last character
@@ -169,12 +169,12 @@ fn names_in_utf8(rt: HostRuntime) -> Result<(), Fail> {
         // the name stands before the value
         ("09 00 00 00 08 ff 00 02 00", BsonFault::Utf8 { at: 5 }),
     ];
-    refuses(&rt, rt.alloc(), &rows)
+    refuses(&rt, rt.alloc(), &ROWS)
 }
 
 #[test]
 fn kinds_and_truth_values(rt: HostRuntime) -> Result<(), Fail> {
-    let rows = [
+    static ROWS: [(&str, BsonFault); 9] = [
         (
             "08 00 00 00 15 61 00 00",
             BsonFault::Kind { at: 4, byte: 21 },
@@ -214,7 +214,7 @@ fn kinds_and_truth_values(rt: HostRuntime) -> Result<(), Fail> {
             BsonFault::Bool { at: 7, byte: 2 },
         ),
     ];
-    refuses(&rt, rt.alloc(), &rows)
+    refuses(&rt, rt.alloc(), &ROWS)
 }
 
 #[test]
@@ -237,7 +237,7 @@ fn each_type_byte(rt: HostRuntime) -> Result<(), Fail> {
 
 #[test]
 fn strings(rt: HostRuntime) -> Result<(), Fail> {
-    let rows = [
+    static ROWS: [(&str, BsonFault); 13] = [
         // a length that is cut, zero, negative, one too many
         (
             "0b 00 00 00 02 61 00 01 00 00 00",
@@ -294,12 +294,12 @@ fn strings(rt: HostRuntime) -> Result<(), Fail> {
             BsonFault::Utf8 { at: 11 },
         ),
     ];
-    refuses(&rt, rt.alloc(), &rows)
+    refuses(&rt, rt.alloc(), &ROWS)
 }
 
 #[test]
 fn documents_inside(rt: HostRuntime) -> Result<(), Fail> {
-    let rows = [
+    static ROWS: [(&str, BsonFault); 14] = [
         (
             "0c 00 00 00 03 61 00 04 00 00 00 00",
             BsonFault::Length { at: 7 },
@@ -358,12 +358,12 @@ fn documents_inside(rt: HostRuntime) -> Result<(), Fail> {
             BsonFault::Length { at: 14 },
         ),
     ];
-    refuses(&rt, rt.alloc(), &rows)
+    refuses(&rt, rt.alloc(), &ROWS)
 }
 
 #[test]
 fn arrays_inside(rt: HostRuntime) -> Result<(), Fail> {
-    let rows = [
+    static ROWS: [(&str, BsonFault); 8] = [
         (
             "0c 00 00 00 04 61 00 04 00 00 00 00",
             BsonFault::Length { at: 7 },
@@ -397,7 +397,7 @@ fn arrays_inside(rt: HostRuntime) -> Result<(), Fail> {
             BsonFault::Length { at: 7 },
         ),
     ];
-    refuses(&rt, rt.alloc(), &rows)
+    refuses(&rt, rt.alloc(), &ROWS)
 }
 
 #[test]

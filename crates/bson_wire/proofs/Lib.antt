@@ -6,3 +6,4 @@ pub mod Fields
 pub mod Documents
 pub mod Outermost
 pub mod Written
+pub mod Ahead

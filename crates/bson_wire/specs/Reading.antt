@@ -1,6 +1,6 @@
--- Reading from left to right, with the first fault that is met and its place (bsonspec 1.1; the faults and their places
--- are own). A reader of the elements of a document is given `start`, the place of that document's length, and `end`, the
--- place where its bytes end, so that what is left begins at the place `end - length bytes`.
+-- Reading from left to right, with the first fault that is met and its place (bsonspec 1.1; own: the names of the faults
+-- and their places, since the standard names none). A reader of elements is given `start`, the place of the length of
+-- their document, and `end`, the place where the bytes end, so that what is left begins at `end - length bytes`.
 use Rattle.std.specs.Prelude.{◌≡◌, ℕ, zero, suc, ◌+◌, ◌-◌, true, false, ◌||◌, List, [], ◌∷◌, length, take, drop, Option, Some, None, Result, Ok, Err, nat_lt, ◌==◌, position, if◌then◌else◌}
 use Rattle.std.specs.Str.{is_utf8}
 use Rattle.std.specs.Str.Lossy.{utf8_valid_len}
@@ -75,12 +75,13 @@ name_at start end bytes = do
   name ← text_at (end - length bytes) parts.0
   Ok (name, parts.1)
 
--- A length field and its number (bsonspec 1.1, int32): at least `least`, and all that it counts is there, where it counts
--- `own` bytes of the field itself. Else the fault is at the field.
+-- A length field and its number (bsonspec 1.1, int32): at least `least`, and all that it counts is there; `own` is how
+-- many bytes of the field itself it counts. Else the fault is at the field.
 unfoldable pub length_at : ℕ → ℕ → ℕ → List ℕ → Read ℕ
 length_at least own end bytes = do
   number ← bytes_at (end - length bytes) 4 bytes
-  let n = little_number 4 number.0 in if nat_lt n least || nat_lt (length number.1 + own) n then Err (fault.Length (end - length bytes)) else Ok (n, number.1)
+  let n = little_number 4 number.0 in
+      if nat_lt n least || nat_lt (length number.1 + own) n then Err (fault.Length (end - length bytes)) else Ok (n, number.1)
 
 -- A text with its length in front and 00 behind (bsonspec 1.1, string). The 00 is looked at before the text.
 unfoldable pub string_at : ℕ → List ℕ → Read (List ℕ)
@@ -146,8 +147,8 @@ elements_at Inner (suc fuel) start end (byte ∷ bytes) = do
   others ← elements_at Inner fuel start end first.1
   Ok (first.0 ∷ others)
 
--- What stands behind the length field of a document whose total is n (bsonspec 1.1, document): elements, and 00. The last
--- byte is kept for the 00, so no element may reach it; where it is another byte the fault is at the length field.
+-- What stands behind the length field of a document whose total is n (bsonspec 1.1, document): elements, and 00. The
+-- last byte is kept for the 00, so no element may reach it; where it is another byte the fault is at the length field.
 unfoldable pub body_at : (ℕ → List ℕ → Read Document) → ℕ → ℕ → List ℕ → Read Document
 body_at Inner start n bytes = do
   elements ← elements_at Inner n start (start + n - 1) (take (n - 5) bytes)
@@ -157,7 +158,8 @@ body_at Inner start n bytes = do
 -- A document inside another, where so many levels are left. No level is left for one at depth 101.
 unfoldable pub document_at : ℕ → ℕ → List ℕ → Read Document
 document_at zero end bytes = Err (fault.Deep (end - length bytes))
-document_at (suc levels) end bytes = length_at 5 4 end bytes >>= (λ n. body_at (document_at levels) (end - length bytes) n.0 n.1)
+document_at (suc levels) end bytes =
+    length_at 5 4 end bytes >>= (λ n. body_at (document_at levels) (end - length bytes) n.0 n.1)
 
 -- The outermost document (own: a total from 5 to 48,000,000 that is more than the bytes given is Short, not a fault of
 -- the bytes).

@@ -1,5 +1,5 @@
--- Which bytes spell a document: a relation by cases on the kinds, over whole byte strings (bsonspec 1.1). Neither a place
--- nor an order of reading stands here.
+-- Which bytes spell a document: a relation by cases on the kinds, over whole byte strings (bsonspec 1.1). No place and
+-- no order of reading stands here.
 use Rattle.std.specs.Prelude.{◌≡◌, ℕ, zero, suc, ◌+◌, ◌≤◌, Bool, List, [], ◌∷◌, ◌++◌, length, map, IsUtf8, if◌then◌else◌}
 use Rattle.std.specs.Int.{w32, cast_signed}
 use Rattle.byteorder.specs.Endian.{little_number}

@@ -13,7 +13,8 @@ use Rattle.bson_wire.specs.Spelled.{payload}
 
 -- The payload spells the value, where enough levels are left.
 abbrev pub PayloadSpells : Value → Type 0
-PayloadSpells v = (levels : ℕ) → depth_inside v ≤ levels → IsPayload (SpellsWithin levels) (payload v).0 (payload v).1 (out-Value v)
+PayloadSpells v =
+    (levels : ℕ) → depth_inside v ≤ levels → IsPayload (SpellsWithin levels) (payload v).0 (payload v).1 (out-Value v)
 
 -- The same of an element, whose name is one.
 abbrev pub ElementSpells : Name × Value → Type 0

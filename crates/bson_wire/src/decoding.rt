@@ -10,13 +10,15 @@ use bson_doc::Document;
 use byteorder::{ByteOrder, LittleEndian};
 use std::alloc::Global;
 
-/// Reads the document at the front of the bytes, and gives its length. No byte behind the document is read.
+/// Reads the document at the front of the bytes, and gives its length. Bytes behind it do not matter
+/// ([`no_look_ahead`](crate::no_look_ahead)).
 pub fn decode(alloc: Global, bytes: &[u8]) -> Result<(Document, usize), BsonFault>
     // What is read is spelled so.
     ensures found { IfOk result (λ x. (x.1 ≤ length bytes.now) × Spells (take x.1 bytes.now) x.0) }
 
     // What is spelled so is read, whatever follows, unless memory runs out.
-    ensures only { (text more : List ℕ) (document : Document) → bytes.now ≡ text ++ more → Spells text document
+    ensures only { (text more : List ℕ) (document : Document)
+        → bytes.now ≡ text ++ more → Spells text document
         → MatchResult result (λ x. x ≡ (document, length text)) (λ e. e ≡ BsonFault.Memory) }
 
     // An Ok comes only where the bytes have no flaw, and a fault is the first one from the left.

@@ -3,7 +3,7 @@ ghost use Rattle.std.specs.Prelude.{◌≡◌};
 use std::alloc::{AllocError, AllocFailed};
 use thiserror::Error;
 
-/// Why some bytes do not begin with a document: the first fault from the left. Places count from the front of the bytes.
+/// Why some bytes do not begin with a document: the first fault from the left. Places count from the front.
 #[derive(Clone, Copy, Debug, PartialEq, Eq, Error)]
 pub enum BsonFault {
     /// Fewer than four bytes are there, or the total is in its range and exceeds the bytes.

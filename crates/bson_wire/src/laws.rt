@@ -1,9 +1,11 @@
 //! Laws of the spelling, each the contract of a function that does nothing.
 
-ghost use Rattle.std.specs.Prelude.{◌≡◌, ◌↔◌, ℕ, List, [], ◌++◌, take, None, Ok};
+ghost use Rattle.std.specs.Prelude.{◌≡◌, ◌≢◌, ◌↔◌, ℕ, List, [], ◌++◌, take, Some, None, Ok};
 ghost use Rattle.bson_doc.specs.declared.value.Document.{Document};
 ghost use Rattle.bson_wire.specs.Spelling.{Spells};
 ghost use Rattle.bson_wire.specs.Reading.{read, flaw};
+
+use crate::BsonFault;
 
 /// Bytes spell at most one document.
 pub fn one_document()
@@ -12,15 +14,25 @@ pub fn one_document()
 
 /// No spelling begins another one.
 pub fn no_prefix()
-    ensures { (bytes more : List ℕ) (a b : Document) → Spells bytes a → Spells (bytes ++ more) b → more ≡ [] }
+    ensures { (bytes more : List ℕ) (a b : Document)
+        → Spells bytes a → Spells (bytes ++ more) b → more ≡ [] }
 {}
 
 /// Bytes have no flaw exactly where they begin with a spelling.
 pub fn flawless()
-    ensures { (bytes : List ℕ) → flaw bytes ≡ None ↔ (n : ℕ) × (document : Document) × Spells (take n bytes) document }
+    ensures { (bytes : List ℕ)
+        → flaw bytes ≡ None ↔ (n : ℕ) × (document : Document) × Spells (take n bytes) document }
 {}
 
 /// What is spelled so is read again, whatever follows.
 pub fn read_again()
-    ensures { (bytes more : List ℕ) (document : Document) → Spells bytes document → read (bytes ++ more) ≡ Ok (document, more) }
+    ensures { (bytes more : List ℕ) (document : Document)
+        → Spells bytes document → read (bytes ++ more) ≡ Ok (document, more) }
+{}
+
+/// Where the bytes are enough for an answer, what follows them does not change it: a reader looks at no byte behind the
+/// document.
+pub fn no_look_ahead()
+    ensures { (bytes more : List ℕ)
+        → flaw bytes ≢ Some BsonFault.Short → flaw (bytes ++ more) ≡ flaw bytes }
 {}

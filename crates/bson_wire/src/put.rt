@@ -117,7 +117,8 @@ pub fn put_plain(out: &mut Vec<u8>, value: &Value) -> Result<(), EncodeFault>
 /// The end of a document that began at `start`, where four bytes were left for its total.
 pub fn end_document(out: &mut Vec<u8>, start: usize) -> Result<(), EncodeFault>
     requires { start + 4 ≤ vec_len out.old }
-    ensures ok { OnOk result (out.new.items ≡ take start out.old.items ++ document (drop (start + 4) out.old.items)) }
+    ensures ok { OnOk result
+        (out.new.items ≡ take start out.old.items ++ document (drop (start + 4) out.old.items)) }
     ensures size { OnOk result (length (document (drop (start + 4) out.old.items)) ≤ 48000000) }
     ensures long { IfErr result (Stops (length (document (drop (start + 4) out.old.items)))) }
 {

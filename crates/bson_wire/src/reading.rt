@@ -91,7 +91,8 @@ pub fn body_of(
     requires least { 5 ≤ total }
     requires within { total ≤ length bytes.now + 4 }
     requires small { start + total ≤ 48000000 }
-    ensures gives { Gives (λ x. (x.0, x.1.now)) result (body_at (document_at levels) start total bytes.now) }
+    ensures gives { Gives (λ x. (x.0, x.1.now)) result
+        (body_at (document_at levels) start total bytes.now) }
     ensures rest { IfOk result (λ x. length x.1.now ≤ length bytes.now) }
 {
     let (inside, after) = split_body(total, bytes);
@@ -135,7 +136,8 @@ fn element_of(
 ) -> Result<((Name, Value), &[u8]), BsonFault>
     requires within { length bytes.now < span.end }
     requires small { span.end ≤ 48000000 }
-    ensures gives { Gives (λ x. (x.0, x.1.now)) result (element_at (document_at levels) span.start span.end byte bytes.now) }
+    ensures gives { Gives (λ x. (x.0, x.1.now)) result
+        (element_at (document_at levels) span.start span.end byte bytes.now) }
     ensures rest { IfOk result (λ x. length x.1.now ≤ length bytes.now) }
 {
     let kind = kind_of(span.start, place(span.end, bytes) - 1, byte)?;
@@ -157,7 +159,8 @@ fn value_of(
 ) -> Result<(Value, &[u8]), BsonFault>
     requires within { length bytes.now ≤ span.end }
     requires small { span.end ≤ 48000000 }
-    ensures gives { Gives (λ x. (x.0, x.1.now)) result (value_at (document_at levels) span.start span.end kind bytes.now) }
+    ensures gives { Gives (λ x. (x.0, x.1.now)) result
+        (value_at (document_at levels) span.start span.end kind bytes.now) }
     ensures rest { IfOk result (λ x. length x.1.now ≤ length bytes.now) }
 {
     match kind {
@@ -184,7 +187,8 @@ fn array_of(
 ) -> Result<(Rows<Value>, &[u8]), BsonFault>
     requires within { length bytes.now ≤ end }
     requires small { end ≤ 48000000 }
-    ensures gives { Gives (λ x. (x.0, x.1.now)) result (unnamed_document (document_at levels end bytes.now)) }
+    ensures gives { Gives (λ x. (x.0, x.1.now)) result
+        (unnamed_document (document_at levels end bytes.now)) }
     ensures rest { IfOk result (λ x. length x.1.now ≤ length bytes.now) }
 {
     let start = place(end, bytes);
@@ -207,7 +211,8 @@ fn array_body_of(
     requires least { 5 ≤ total }
     requires within { total ≤ length bytes.now + 4 }
     requires small { start + total ≤ 48000000 }
-    ensures gives { Gives (λ x. (x.0, x.1.now)) result (unnamed_document (body_at (document_at levels) start total bytes.now)) }
+    ensures gives { Gives (λ x. (x.0, x.1.now)) result
+        (unnamed_document (body_at (document_at levels) start total bytes.now)) }
     ensures rest { IfOk result (λ x. length x.1.now ≤ length bytes.now) }
 {
     let (inside, after) = split_body(total, bytes);
@@ -222,7 +227,8 @@ fn items_of(alloc: Global, levels: u32, span: Span, bytes: &[u8]) -> Result<Rows
     requires within { length bytes.now ≤ span.end }
     requires small { span.end ≤ 48000000 }
     ensures { (fuel : ℕ) → length bytes.now ≤ fuel
-        → Gives (λ x. x) result (unnamed_elements (elements_at (document_at levels) fuel span.start span.end bytes.now)) }
+        → Gives (λ x. x) result
+        (unnamed_elements (elements_at (document_at levels) fuel span.start span.end bytes.now)) }
 {
     let mut items = Rows::new(alloc);
     let mut rest = bytes;

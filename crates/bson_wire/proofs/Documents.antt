@@ -1,6 +1,6 @@
 -- The two laws of a reader of documents, for the values, elements and bodies that lie inside: what is read is spelled by
 -- what was taken, and what is spelled so is read, whatever follows. `R` reads an inner document, `Inner` spells it.
-use Rattle.std.proofs.Common.{◌≡◌, ℕ, zero, suc, ◌+◌, ◌-◌, ◌<◌, ◌≤◌, Bool, true, false, cond, eqb, List, [], ◌∷◌, ◌++◌, length, take, drop, map, Option, Some, None, Result, Ok, Err, refl, sym, ap, subst, ◌∙◌, append_assoc, arith, inl, inr}
+use Rattle.std.proofs.Common.{◌≡◌, ℕ, zero, suc, ◌+◌, ◌-◌, ◌≤◌, cond, eqb, List, [], ◌∷◌, ◌++◌, length, take, drop, Option, Some, None, Ok, refl, sym, ap, subst, ◌∙◌, append_assoc, arith, inl, inr}
 use Rattle.std.proofs.lemmas.Bool.{cases_Bool, cond-true, cond-false, eqb-true}
 use Rattle.std.proofs.lemmas.List.{take_at, drop_at, take-append-drop, length-append, length-take-le}
 use Rattle.bson_doc.specs.declared.name.Name.{Name}
@@ -11,15 +11,13 @@ use Rattle.bson_doc.specs.declared.value.Value.TheVariants.{rolls-Doc, rolls-Arr
 use Rattle.bson_doc.specs.declared.value.Value.TheOpen as layer
 use Rattle.bson_wire.specs.declared.kind.Kind.{Kind}
 use Rattle.bson_wire.specs.declared.kind.Kind.TheVariants as kinds
-use Rattle.bson_wire.specs.declared.kind.PlainKind.{PlainKind}
 use Rattle.bson_wire.specs.declared.kind.PlainKind.TheVariants as plain
 use Rattle.bson_wire.specs.declared.fault.BsonFault.{BsonFault}
-use Rattle.bson_wire.specs.declared.fault.BsonFault.TheVariants as fault
 use Rattle.bson_wire.specs.Kinds.{byte_of, kind_of_byte}
-use Rattle.bson_wire.specs.Spelling.{IsArray, IsPayload, IsElement, AreElements, IsDocument, SpellsWithin, values}
+use Rattle.bson_wire.specs.Spelling.{IsArray, IsPayload, IsElement, AreElements, SpellsWithin, values}
 use Rattle.bson_wire.specs.Reading.{◌>>=◌, Read, or_fault, no_kind, kind_at, behind_zero, name_at, value_at, element_at, elements_at, body_at, length_at, document_at, unnamed_document}
 use Rattle.bson_wire.proofs.Steps.{bind_ok, ok_is, mapped-Ok}
-use Rattle.bson_wire.proofs.Fields.{TakesPlain, plain_takes, plain_again, name_takes, name_again, zero_takes, length_takes, length_again}
+use Rattle.bson_wire.proofs.Fields.{plain_takes, plain_again, name_takes, name_again, zero_takes, length_takes, length_again}
 use Rattle.bson_wire.proofs.Loop.{document_of}
 
 abbrev pub Reader : Type 0

@@ -1,16 +1,14 @@
 -- The parts of values: what is read of them is spelled so, and what is spelled so is read, whatever follows.
-use Rattle.std.proofs.Common.{inl, inr, ◌≡◌, ℕ, zero, suc, ℤ, ◌+◌, ◌-◌, ◌<◌, ◌≤◌, Bool, true, false, cond, eqb, ltb, ◌||◌, List, [], ◌∷◌, ◌++◌, length, take, drop, Option, Some, None, Result, Ok, Err, refl, sym, ap, subst, ◌∙◌, append_assoc, arith}
+use Rattle.std.proofs.Common.{◌≡◌, ℕ, zero, suc, ◌+◌, ◌-◌, ◌≤◌, Bool, true, false, cond, ltb, ◌||◌, List, [], ◌∷◌, ◌++◌, length, take, drop, Ok, Err, refl, sym, ap, subst, ◌∙◌, append_assoc, arith}
 use Rattle.std.specs.Int.{w32, cast_signed}
-use Rattle.std.specs.Prelude.{position}
-use Rattle.std.proofs.lemmas.Bool.{cond-true, cond-false, ltb-false, le-ltb, or_parts, or_from}
-use Rattle.std.proofs.lemmas.List.{take_at, drop_at, take-append-drop, length-append, length-take-le, append_cancel_right}
+use Rattle.std.proofs.lemmas.Bool.{cond-false, ltb-false, le-ltb, or_parts, or_from}
+use Rattle.std.proofs.lemmas.List.{take_at, drop_at, take-append-drop, length-append, length-take-le}
 use Rattle.byteorder.specs.Endian.{little_number}
 use Rattle.bson_doc.specs.declared.value.Document.{Document}
-use Rattle.bson_doc.specs.declared.value.Value.{Value, Value-F, out-Value, roll-Value, roll-out-Value}
+use Rattle.bson_doc.specs.declared.value.Value.{Value, Value-F, out-Value, roll-Value}
 use Rattle.bson_doc.specs.declared.value.Value.TheVariants as value
 use Rattle.bson_doc.specs.declared.value.Value.TheVariants.{rolls-Double, rolls-Str, rolls-Bool, rolls-Int32, outs-Double, outs-Str, outs-Bool, outs-Int32}
 use Rattle.bson_doc.specs.declared.value.Value.TheOpen as layer
-use Rattle.bson_wire.specs.declared.fault.BsonFault.{BsonFault}
 use Rattle.bson_wire.specs.declared.fault.BsonFault.TheVariants as fault
 use Rattle.bson_wire.specs.declared.kind.Kind.TheVariants as kinds
 use Rattle.bson_wire.specs.declared.kind.PlainKind.{PlainKind}

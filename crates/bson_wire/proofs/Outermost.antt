@@ -1,16 +1,15 @@
 -- The outermost document: what is read of it is spelled so, and what is spelled so is read; and what follows from the two.
-use Rattle.std.proofs.Common.{◌≡◌, ℕ, suc, ◌+◌, ◌-◌, ◌<◌, ◌≤◌, Bool, true, false, cond, ltb, ◌||◌, List, [], ◌∷◌, ◌++◌, length, take, drop, Option, Some, None, Result, Ok, Err, refl, sym, ap, subst, ◌∙◌, append_assoc, arith, inl, inr}
-use Rattle.std.specs.Prelude.{◌↔◌, IfOk, MatchResult}
-use Rattle.std.proofs.lemmas.Bool.{cond-false, ltb-false, le-ltb, or_parts, or_from}
-use Rattle.std.proofs.lemmas.List.{take_at, drop_at, take-append-drop, length-append, length-take-le, length-drop, append-nil, append_cancel_left, take_all}
+use Rattle.std.proofs.Common.{◌≡◌, ℕ, ◌+◌, ◌-◌, ◌≤◌, false, ltb, ◌||◌, List, [], ◌∷◌, ◌++◌, length, take, drop, Some, None, Result, Ok, Err, refl, sym, ap, subst, ◌∙◌, append_assoc, arith}
+use Rattle.std.proofs.lemmas.Bool.{ltb-false, le-ltb, or_parts, or_from}
+use Rattle.std.proofs.lemmas.List.{take_at, drop_at, take-append-drop, length-append, length-take-le, length-drop, append-nil}
 use Rattle.byteorder.specs.Endian.{little_number}
 use Rattle.bson_doc.specs.declared.value.Document.{Document}
 use Rattle.bson_wire.specs.declared.fault.BsonFault.{BsonFault}
 use Rattle.bson_wire.specs.declared.fault.BsonFault.TheVariants as fault
-use Rattle.bson_wire.specs.Spelling.{IsInt32, SpellsWithin, Spells}
-use Rattle.bson_wire.specs.Reading.{◌>>=◌, body_at, document_at, read, fault_of, flaw, Fails}
+use Rattle.bson_wire.specs.Spelling.{SpellsWithin, Spells}
+use Rattle.bson_wire.specs.Reading.{document_at, read, fault_of, flaw, Fails}
 use Rattle.bson_wire.proofs.Steps.{ok_is, err_or, Fails-Ok, Fails-Err}
-use Rattle.bson_wire.proofs.Documents.{Reader, body_takes, body_again, document_takes, document_again}
+use Rattle.bson_wire.proofs.Documents.{body_takes, body_again, document_takes, document_again}
 
 -- what was taken for the outermost document
 pub record TakesWhole (bytes : List ℕ) (d : Document) (rest : List ℕ) : Type 0 where

@@ -1,5 +1,5 @@
 -- Steps of a reading, one after the other: what a fault and an Ok say of them.
-use Rattle.std.proofs.Common.{◌≡◌, ℕ, Bool, true, false, cond, Result, Ok, Err, refl}
+use Rattle.std.proofs.Common.{◌≡◌, Bool, true, false, cond, Result, Ok, Err, refl}
 use Rattle.bson_wire.specs.declared.fault.BsonFault.{BsonFault}
 use Rattle.bson_wire.specs.declared.fault.BsonFault.TheVariants as fault
 use Rattle.bson_wire.specs.Reading.{◌>>=◌, Fails}

@@ -5,7 +5,7 @@ use Rattle.std.specs.List.{AllByRecursion}
 use Rattle.std.specs.Int.{w32, cast_signed, cast_unsigned, from_bool}
 use Rattle.std.proofs.Math.Facts.{Fits-of_z}
 use Rattle.std.proofs.lemmas.Int.{to_z-of_z}
-use Rattle.std.proofs.lemmas.List.{length-append, length-drop, take_at, drop_at, take-append-le, drop-append-le, drop_more, get_or_append_left, get_or_push, length_push}
+use Rattle.std.proofs.lemmas.List.{length-append, length-drop, take-append-le, drop-append-le, drop_more, get_or_append_left, get_or_push, length_push}
 use Rattle.std.proofs.lemmas.Bool.{ne_eqb, cases_lt}
 use Rattle.std.proofs.lemmas.Str.{IsUtf8-from_ascii}
 use Rattle.std.proofs.lemmas.Fmt.{IsAscii-decimal, decimal_by_steps}
@@ -19,8 +19,7 @@ use Rattle.bson_doc.specs.declared.value.Value.TheVariants as value
 use Rattle.bson_doc.specs.declared.value.Value.TheVariants.{outs-Double, outs-Str, outs-Doc, outs-Array, outs-Bool, outs-Int32}
 use Rattle.bson_wire.specs.declared.fault.EncodeFault.{EncodeFault}
 use Rattle.bson_wire.specs.declared.fault.EncodeFault.TheVariants as fault
-use Rattle.bson_wire.specs.Kinds.{byte_of}
-use Rattle.bson_wire.specs.Spelling.{IsInt32, IsString, IsName, IsArray, IsPayload, IsElement, AreElements, IsDocument, SpellsWithin, Spells, values, truth_byte}
+use Rattle.bson_wire.specs.Spelling.{IsInt32, IsName, IsArray, IsPayload, IsElement, AreElements, SpellsWithin, Spells, values, truth_byte}
 use Rattle.bson_wire.specs.Spelled.{Payload, int32, string, document, element, numbered, payload, spelled_elements, spelled, spelled_items}
 use Rattle.bson_wire.specs.Written.{PayloadSpells, ElementSpells, Stops}
 use Rattle.bson_wire.proofs.Texts.{HasNoZero-from}

@@ -3,7 +3,7 @@ use Rattle.std.specs.Prelude.{ℕ, suc, ◌+◌, List, [], ◌∷◌, ◌++◌, 
 use Rattle.std.specs.Int.{w32, cast_unsigned}
 use Rattle.byteorder.specs.Endian.{little_bytes}
 use Rattle.bson_doc.specs.declared.name.Name.{Name}
-use Rattle.bson_doc.specs.declared.value.Document.{Document, Document-F, fold-Document}
+use Rattle.bson_doc.specs.declared.value.Document.{Document, Document-F}
 use Rattle.bson_doc.specs.declared.value.Value.{Value, Value-F, fold-Value}
 use Rattle.bson_doc.specs.declared.value.Value.TheOpen as layer
 use Rattle.bson_wire.specs.declared.kind.Kind.{Kind}

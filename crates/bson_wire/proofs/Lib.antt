@@ -7,3 +7,4 @@ pub mod Documents
 pub mod Outermost
 pub mod Written
 pub mod Ahead
+pub mod Canonical

@@ -79,19 +79,19 @@ greatest-map : {X Y : Type 0} (f : Y → ℕ) (g : X → Y) (xs : List X) → gr
 greatest-map f g [] = refl
 greatest-map f g (x ∷ xs) = ap (λ (n : ℕ). max (f (g x)) n) (greatest-map f g xs)
 
-depth_of-elements : (d : Document) → depth_of d ≡ 1 + greatest (λ e. depth_inside e.1) d.elements
+pub depth_of-elements : (d : Document) → depth_of d ≡ 1 + greatest (λ e. depth_inside e.1) d.elements
 depth_of-elements d = fold_out-Document ℕ ℕ value_step document_step d ∙ ap (λ (n : ℕ). 1 + n) (greatest-map (λ e. e.1) _ d.elements)
 
-depth_inside-Doc : (v : Value) (d : Document) → v ≡ value.Doc d → depth_inside v ≡ depth_of d
+pub depth_inside-Doc : (v : Value) (d : Document) → v ≡ value.Doc d → depth_inside v ≡ depth_of d
 depth_inside-Doc v d e =
     ap depth_inside e ∙ fold_out-Value ℕ ℕ value_step document_step (value.Doc d) ∙ ap (λ w. value_step (map-Value Value Document ℕ ℕ depth_inside depth_of w)) (outs-Doc d)
 
-depth_inside-Array : (v : Value) (items : List Value) → v ≡ value.Array items → depth_inside v ≡ 1 + greatest depth_inside items
+pub depth_inside-Array : (v : Value) (items : List Value) → v ≡ value.Array items → depth_inside v ≡ 1 + greatest depth_inside items
 depth_inside-Array v items e =
     ap depth_inside e ∙ fold_out-Value ℕ ℕ value_step document_step (value.Array items) ∙ ap (λ w. value_step (map-Value Value Document ℕ ℕ depth_inside depth_of w)) (outs-Array items)
     ∙ ap (λ (n : ℕ). 1 + n) (greatest-map (λ d. d) depth_inside items)
 
-length-document : (body : List ℕ) → length (document body) ≡ length body + 5
+pub length-document : (body : List ℕ) → length (document body) ≡ length body + 5
 length-document body = omega (arith, length-append body (0 ∷ []))
 
 elements_spell : (levels : ℕ) (es : List Element) → AllByRecursion ElementSpells es → greatest (λ e. depth_inside e.1) es ≤ levels → AreElements (SpellsWithin levels) (spelled_elements es) es

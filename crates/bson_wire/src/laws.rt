@@ -1,8 +1,9 @@
 //! Laws of the spelling, each the contract of a function that does nothing.
 
-ghost use Rattle.std.specs.Prelude.{◌≡◌, ◌≢◌, ◌↔◌, ℕ, List, [], ◌++◌, take, Some, None, Ok};
+ghost use Rattle.std.specs.Prelude.{◌≡◌, ◌≢◌, ◌≤◌, ◌<◌, ◌↔◌, All, length, ℕ, List, [], ◌++◌, take, Some, None, Ok};
 ghost use Rattle.bson_doc.specs.declared.value.Document.{Document};
 ghost use Rattle.bson_wire.specs.Spelling.{Spells};
+ghost use Rattle.bson_wire.specs.Spelled.{spelled};
 ghost use Rattle.bson_wire.specs.Reading.{read, flaw};
 
 use crate::BsonFault;
@@ -28,6 +29,13 @@ pub fn flawless()
 pub fn read_again()
     ensures { (bytes more : List ℕ) (document : Document)
         → Spells bytes document → read (bytes ++ more) ≡ Ok (document, more) }
+{}
+
+/// What has a spelling has the one of `encode`, where that is not too long.
+pub fn spelled_spells()
+    ensures { (bytes : List ℕ) (document : Document)
+        → All (λ b. b < 256) bytes → Spells bytes document → length (spelled document) ≤ 48000000
+        → Spells (spelled document) document }
 {}
 
 /// Where the bytes are enough for an answer, what follows them does not change it: a reader looks at no byte behind the

@@ -4,7 +4,8 @@
 //! reads the document at the front of some bytes, or names the first fault from the left with its place. What bytes
 //! spell a document is said by the relation `Spells` of `specs/Spelling.antt`, apart from both directions; `spelled` of
 //! `specs/Spelled.antt` is the one spelling, and `flaw` of `specs/Reading.antt` the first fault. The laws that tie them
-//! are the contracts of [`one_document`], [`no_prefix`], [`flawless`], [`read_again`] and [`no_look_ahead`].
+//! are the contracts of [`one_document`], [`no_prefix`], [`flawless`], [`read_again`], [`spelled_spells`]
+//! and [`no_look_ahead`].
 //!
 //! This product's own limits: a document has at most 100 levels and 48,000,000 bytes. A double is kept as its eight
 //! bytes. The names of an array's elements may be any names, and are not kept.
@@ -30,4 +31,4 @@ mod writing;
 pub use decoding::decode;
 pub use encoding::encode;
 pub use fault::{BsonFault, EncodeFault};
-pub use laws::{flawless, no_look_ahead, no_prefix, one_document, read_again};
+pub use laws::{flawless, no_look_ahead, no_prefix, one_document, read_again, spelled_spells};

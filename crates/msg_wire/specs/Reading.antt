@@ -35,7 +35,7 @@ Gives view (Ok x) read = read ≡ Ok (view x)
 Gives view (Err e) read = Fails e read
 
 -- The number in the four bytes at a place, the lowest first.
-abbrev pub number_at : ℕ → List ℕ → ℕ
+unfoldable pub number_at : ℕ → List ℕ → ℕ
 number_at place bytes = little_number 4 (drop place bytes)
 
 -- The same as a signed number (MongoDB wire protocol, int32).
@@ -54,15 +54,20 @@ need_of bytes =
     if is_length (number_at 0 bytes) then Some (number_at 0 bytes) else
     None
 
--- The messageLength of a header that is in order and whose message is there whole. All of the header is looked at before
--- more than the header is asked for.
+-- The messageLength of a header whose messageLength and opCode are these, where so many bytes are there in all. All of
+-- the header is looked at before more than the header is asked for.
+abbrev pub checked_header : ℕ → ℕ → ℕ → Result ℕ MsgFault
+checked_header there total code =
+    if not (is_length total) then Err (fault.Length (cast_signed w32 total)) else
+    if not (code == 2013) then Err (fault.Opcode (cast_signed w32 code)) else
+    if nat_lt there total then Err (fault.Short total) else
+    Ok total
+
+-- The messageLength of a header that is in order and whose message is there whole.
 unfoldable pub header_at : List ℕ → Result ℕ MsgFault
 header_at bytes =
     if nat_lt (length bytes) 16 then Err (fault.Short 16) else
-    if not (is_length (number_at 0 bytes)) then Err (fault.Length (signed_at 0 bytes)) else
-    if not (number_at 12 bytes == 2013) then Err (fault.Opcode (signed_at 12 bytes)) else
-    if nat_lt (length bytes) (number_at 0 bytes) then Err (fault.Short (number_at 0 bytes)) else
-    Ok (number_at 0 bytes)
+    checked_header (length bytes) (number_at 0 bytes) (number_at 12 bytes)
 
 -- The flag bits, none of which is refused; the fault names the lowest that is.
 abbrev pub checked_flags : ℕ → Option ℕ → Result ℕ MsgFault

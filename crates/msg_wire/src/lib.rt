@@ -15,6 +15,7 @@
 #![tactic(auto)]
 
 mod fault;
+mod fields;
 mod flags;
 mod laws;
 mod message;

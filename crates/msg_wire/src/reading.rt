@@ -6,11 +6,11 @@ ghost use Rattle.msg_wire.specs.Reading as spec;
 ghost use Rattle.msg_wire.specs.Flags.{refused_bit};
 ghost use Rattle.bson_wire.specs.Reading as documents;
 
+use crate::fields::{number, signed};
 use crate::flags::refused_bit_of;
 use crate::{Message, MsgFault};
 use bson_doc::Document;
 use bson_wire::{BsonFault, decode};
-use byteorder::{ByteOrder, LittleEndian};
 use std::alloc::Global;
 
 /// How many bytes a header has.
@@ -31,7 +31,7 @@ pub fn need(bytes: &[u8]) -> Option<u32>
     if bytes.len() < 4 {
         return None;
     }
-    let total = LittleEndian::read_u32(bytes);
+    let total = number(bytes, 0);
     (LEAST_BYTES <= total && total <= MOST_BYTES).then_some(total)
 }
 
@@ -70,13 +70,13 @@ fn header_of(bytes: &[u8]) -> Result<u32, MsgFault>
     if bytes.len() < HEADER {
         return Err(MsgFault::Short { need: 16 });
     }
-    let total = LittleEndian::read_u32(bytes);
+    let total = number(bytes, 0);
     if total < LEAST_BYTES || MOST_BYTES < total {
         return Err(MsgFault::Length {
             got: total.cast_signed(),
         });
     }
-    let code = LittleEndian::read_u32(&bytes[12..]);
+    let code = number(bytes, 12);
     if code != OP_MSG {
         return Err(MsgFault::Opcode {
             got: code.cast_signed(),
@@ -94,23 +94,21 @@ fn message_of(alloc: Global, bytes: &[u8]) -> Result<Message, MsgFault>
     requires most { length bytes.now ≤ 48000000 }
     ensures { Gives (λ m. m) result (message_at bytes.now) }
 {
-    let flags = flags_of(&bytes[16..])?;
+    let flags = flags_of(number(bytes, 16))?;
     let length = bytes.len() as u32;
     let body = body_of(alloc, length, &bytes[20..])?;
     Ok(Message {
-        id: LittleEndian::read_i32(&bytes[4..]),
-        to: LittleEndian::read_i32(&bytes[8..]),
+        id: signed(bytes, 4),
+        to: signed(bytes, 8),
         flags,
         body,
         length,
     })
 }
 
-fn flags_of(bytes: &[u8]) -> Result<u32, MsgFault>
-    requires { 4 ≤ length bytes.now }
-    ensures { Gives (λ n. n) result (checked_flags (number_at 0 bytes.now) (refused_bit (number_at 0 bytes.now))) }
+fn flags_of(flags: u32) -> Result<u32, MsgFault>
+    ensures { Gives (λ n. n) result (checked_flags flags (refused_bit flags)) }
 {
-    let flags = LittleEndian::read_u32(bytes);
     match refused_bit_of(flags) {
         Some(bit) => Err(MsgFault::Flags { bit }),
         None => Ok(flags),

@@ -1,9 +1,9 @@
-ghost use Rattle.std.specs.Prelude.{◌≡◌, ◌≤◌, ◌<◌, ◌++◌, length, None, IfOk, OnOk, IfErr};
+ghost use Rattle.std.specs.Prelude.{◌≡◌, ◌+◌, ◌≤◌, ◌<◌, ◌++◌, length, None, IfOk, OnOk, IfErr};
 ghost use Rattle.std.specs.Int.{w32, cast_unsigned};
 ghost use Rattle.bson_doc.specs.Documents.{depth_of};
 ghost use Rattle.bson_wire.specs.Spelled.{int32};
 ghost use Rattle.msg_wire.specs.Flags.{refused_bit};
-ghost use Rattle.msg_wire.specs.Framing.{Framed, frame, header, message_of};
+ghost use Rattle.msg_wire.specs.Framing.{Framed, frame, framing, header, message_of};
 
 use bson_doc::{Bytes, Document, Memory};
 use bson_wire::{EncodeFault, encode};
@@ -43,12 +43,28 @@ pub fn write(
     if spelling.len() > MOST_BYTES - FRONT {
         return Err(EncodeFault::Long);
     }
+    let bytes = framing_of(alloc, id, to, flags, spelling.as_slice())?;
+    Ok(bytes)
+}
+
+/// The bytes of a message that fits, from those of its document.
+#[tactic(auto, unfolding(crate::specs::Framing::framing))]
+fn framing_of(
+    alloc: Global,
+    id: i32,
+    to: i32,
+    flags: u32,
+    spelling: &[u8],
+) -> Result<Bytes, Memory>
+    requires { length spelling.now + 21 ≤ 48000000 }
+    ensures { IfOk result (λ bytes. bytes ≡ framing id to flags spelling.now) }
+{
     let total = FRONT + spelling.len();
     let mut out = Vec::with_capacity(alloc, total)?;
     put_header(&mut out, total as u32, id, to)?;
     put_number(&mut out, flags)?;
     out.push(0)?;
-    out.extend_from_slice(spelling.as_slice())?;
+    out.extend_from_slice(spelling)?;
     Ok(Bytes::from_vec(out))
 }
 

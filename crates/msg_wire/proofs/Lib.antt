@@ -1,0 +1,11 @@
+mod Answered
+mod Asked
+mod Bodies
+mod ByPlaces
+mod Framings
+mod Headers
+mod Messages
+mod Places
+mod Sections
+mod Steps
+mod Whole

@@ -16,7 +16,7 @@ pub record InOrder (total code : ℕ) : Type 0 where
 pub checked_header-in_order : (there total code : ℕ) → InOrder total code → checked_header there total code ≡ cond (ltb there total) (Err (fault.Short total)) (Ok total)
 checked_header-in_order there total code h = grind (arith, nat_tests, h.least, h.most, h.is_code)
 
-InOrder-from_tests : (total code : ℕ) → not (is_length total) ≡ false → not (eqb code 2013) ≡ false → InOrder total code
+pub InOrder-from_tests : (total code : ℕ) → not (is_length total) ≡ false → not (eqb code 2013) ≡ false → InOrder total code
 InOrder-from_tests total code a b = record { least = grind (arith, nat_tests); most = grind (arith, nat_tests); is_code = grind (arith, nat_tests) }
 
 pub checked_header-ok : (there total code n : ℕ) → checked_header there total code ≡ Ok n → InOrder total code × (total ≤ there) × (n ≡ total)

@@ -12,7 +12,7 @@ use Rattle.msg_wire.specs.Reading.{document_at, sections_at}
 use Rattle.msg_wire.specs.declared.fault.MsgFault.{MsgFault}
 use Rattle.msg_wire.specs.declared.fault.MsgFault.TheVariants as fault
 use Rattle.msg_wire.proofs.Bodies.{read-spelled}
-use Rattle.msg_wire.proofs.Steps.{bind_ok}
+use Rattle.msg_wire.proofs.Steps.{bind_ok, err_ok}
 
 flaw-read : (bytes : List ℕ) (x : Document × List ℕ) → documents.read bytes ≡ Ok x → flaw bytes ≡ None
 unfolding flaw
@@ -31,9 +31,6 @@ spells-read bytes x h nothing =
 document_at-ok : (place : ℕ) (read : documents.Read Document) (x : Document × List ℕ) → document_at place read ≡ Ok x → read ≡ Ok x
 document_at-ok place (Ok y) x h = cc
 document_at-ok place (Err e) x h = cc
-
-err_ok : {A : Type 0} {e : MsgFault} {x : A} → Err e ≡ Ok x → ⊥
-err_ok h = cc
 
 last-ok : (end : ℕ) (x : Document × List ℕ) (d : Document) → cond (eqb (length x.1) 0) (Ok x.0) (Err (fault.Sections (end - length x.1))) ≡ Ok d → (x.1 ≡ []) × (x.0 ≡ d)
 last-ok end (y, []) d h = (refl, cc)

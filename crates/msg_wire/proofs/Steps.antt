@@ -19,3 +19,9 @@ guard_ok false e r y h = (refl, h)
 pub err_from_fault : {A : Type 0} (r : Result A MsgFault) (e : MsgFault) → fault_of r ≡ Some e → r ≡ Err e
 err_from_fault (Ok x) e h = cc
 err_from_fault (Err f) e h = cc
+
+pub err_ok : {A : Type 0} {e : MsgFault} {x : A} → Err e ≡ Ok x → ⊥
+err_ok h = cc
+
+pub err_same : {A : Type 0} (r : Result A MsgFault) (e f : MsgFault) → r ≡ Err e → r ≡ Err f → e ≡ f
+err_same r e f p q = cc

@@ -123,7 +123,7 @@ pub record Waits (bytes : List ℕ) (n : ℕ) : Type 0 where
 
 pub Waits-from_flaw : (bytes : List ℕ) (n : ℕ) → 16 ≤ length bytes → flaw bytes ≡ Some (fault.Short n) → Waits bytes n
 Waits-from_flaw bytes n there h = elim (judged (number_at 0 bytes) (number_at 12 bytes)) [
-  | inr refused ↦ 
+  | inr refused ↦
       let same = err_same (read bytes) refused.0 (fault.Short n) (read-refused bytes refused.0 there (refused.2 (length bytes))) (read-flaw bytes (fault.Short n) h) in
       absurd (subst IsRefusal same refused.1)
   | inl order ↦ elim (cases_lt (length bytes) (number_at 0 bytes)) [

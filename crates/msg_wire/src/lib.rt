@@ -20,6 +20,8 @@ mod flags;
 mod laws;
 mod message;
 mod reading;
+#[cfg(test)]
+mod tests;
 mod writing;
 
 pub use fault::MsgFault;

@@ -49,13 +49,7 @@ pub fn write(
 
 /// The bytes of a message that fits, from those of its document.
 #[tactic(auto, unfolding(crate::specs::Framing::framing))]
-fn framing_of(
-    alloc: Global,
-    id: i32,
-    to: i32,
-    flags: u32,
-    spelling: &[u8],
-) -> Result<Bytes, Memory>
+fn framing_of(alloc: Global, id: i32, to: i32, flags: u32, spelling: &[u8]) -> Result<Bytes, Memory>
     requires { length spelling.now + 21 ≤ 48000000 }
     ensures { IfOk result (λ bytes. bytes ≡ framing id to flags spelling.now) }
 {

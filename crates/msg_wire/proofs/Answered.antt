@@ -1,5 +1,5 @@
 -- What is known of the answer of a call that gives what reading gives.
-use Rattle.std.proofs.Common.{◌≡◌, ◌≢◌, ◌≤◌, ℕ, List, ◌++◌, length, take, Some, None, Result, Ok, Err, IfOk, IfErr, OnOk, MatchResult, refl, sym, ap, ◌∙◌}
+use Rattle.std.proofs.Common.{◌≡◌, ◌≢◌, ◌≤◌, ℕ, List, ◌++◌, length, take, Some, None, Result, Ok, Err, IfOk, IfErr, OnOk, MatchResult, refl, ap, ◌∙◌}
 use Rattle.msg_wire.specs.Framing.{Framed}
 use Rattle.msg_wire.specs.Reading.{Fails, Gives, read, flaw, fault_of}
 use Rattle.msg_wire.specs.declared.fault.MsgFault.{MsgFault}

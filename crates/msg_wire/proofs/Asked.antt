@@ -1,5 +1,5 @@
 -- What Short asks for, and what is known once as many bytes are there.
-use Rattle.std.proofs.Common.{◌≡◌, ◌≢◌, ◌≤◌, ◌<◌, ℕ, ℤ, ◌+◌, Bool, true, false, cond, not, eqb, ltb, leb, List, [], ◌∷◌, zero, suc, ◌++◌, length, take, drop, Option, Some, None, Result, Ok, Err, IfErr, refl, sym, ap, ◌∙◌, subst, arith, length-append, inl, inr, ◌⊎◌}
+use Rattle.std.proofs.Common.{◌≡◌, ◌≢◌, ◌≤◌, ◌<◌, ℕ, ℤ, Bool, true, false, cond, not, eqb, ltb, leb, List, [], ◌∷◌, zero, suc, ◌++◌, length, take, drop, Option, Some, None, Result, Ok, Err, IfErr, refl, sym, ap, ◌∙◌, subst, arith, length-append, inl, inr, ◌⊎◌}
 use Rattle.std.proofs.lemmas.Bool.{cases_lt}
 use Rattle.std.proofs.lemmas.Bool.Decides.{nat_tests}
 use Rattle.std.proofs.lemmas.List.{take_all, take-append-le, length-take-le}
@@ -13,7 +13,7 @@ use Rattle.msg_wire.specs.Reading.{number_at, is_length, need_of, checked_header
 use Rattle.msg_wire.specs.declared.fault.MsgFault.{MsgFault}
 use Rattle.msg_wire.specs.declared.fault.MsgFault.TheVariants as fault
 use Rattle.msg_wire.specs.declared.message.Message.{Message}
-use Rattle.msg_wire.proofs.ByPlaces.{FramedByPlaces, FramedByPlaces-from_Framed}
+use Rattle.msg_wire.proofs.ByPlaces.{FramedByPlaces-from_Framed}
 use Rattle.msg_wire.proofs.Headers.{InOrder, InOrder-from_tests, header_at-whole}
 use Rattle.msg_wire.proofs.Places.{number_at-append, number_at-take}
 use Rattle.msg_wire.proofs.Steps.{IfErr-bind, err_ok, err_same, err_from_fault}
@@ -185,8 +185,8 @@ header_first bytes more n got there h =
     (not_refusal (bytes ++ more) (fault.Length got) there' order tt (λ b. b) (λ e. cc), not_refusal (bytes ++ more) (fault.Opcode got) there' order tt (λ b. b) (λ e. cc))
 
 -- A front that is framed says itself how long it is.
-length-front : (bytes : List ℕ) (k : ℕ) (message : Message) → Framed (take k bytes) message → number_at 0 bytes ≡ length bytes → take k bytes ≡ bytes
-length-front bytes k message m total =
+take-framed : (bytes : List ℕ) (k : ℕ) (message : Message) → Framed (take k bytes) message → number_at 0 bytes ≡ length bytes → take k bytes ≡ bytes
+take-framed bytes k message m total =
     let p = FramedByPlaces-from_Framed (take k bytes) message m in
     elim (cases_lt k (length bytes)) [
       | inl less ↦
@@ -202,7 +202,7 @@ enough bytes more n there h whole =
     let total : number_at 0 (bytes ++ more) ≡ length (bytes ++ more) = number_at-append 0 bytes more (omega arith) ∙ w.total ∙ sym whole in
     let there' : 16 ≤ length (bytes ++ more) = omega (arith, length-append bytes more) in
     record {
-      all = λ k message m. length-front (bytes ++ more) k message m total;
+      all = λ k message m. subst (λ (whole : List ℕ). Framed whole message) (take-framed (bytes ++ more) k message m total) m;
       not_short = λ k e. let later = Waits-from_flaw (bytes ++ more) k there' e in omega (arith, later.total, later.fewer, total);
       not_length = λ got. (first got there h).0;
       not_opcode = λ got. (first got there h).1;

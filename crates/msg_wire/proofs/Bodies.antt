@@ -1,5 +1,5 @@
 -- What reading the document of a section gives, from what reading a document gives.
-use Rattle.std.proofs.Common.{◌≡◌, ◌≢◌, ℕ, List, ◌++◌, take, drop, Option, Some, None, Result, Ok, Err, refl, sym, ap, ◌∙◌}
+use Rattle.std.proofs.Common.{◌≡◌, ◌≢◌, ℕ, List, take, drop, Some, Ok, Err, sym, ap, ◌∙◌}
 use Rattle.std.proofs.lemmas.List.{take-append-drop}
 use Rattle.bson_doc.specs.declared.value.Document.{Document}
 use Rattle.bson_wire.specs.declared.fault.BsonFault.{BsonFault}

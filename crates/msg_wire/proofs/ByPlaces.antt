@@ -1,13 +1,13 @@
 -- The frame of a message by the places of its fields, and that it is the frame by parts.
-use Rattle.std.proofs.Common.{◌≡◌, ◌≤◌, ℕ, ℤ, ◌+◌, ◌-◌, List, [], ◌∷◌, ◌++◌, length, take, drop, None, refl, sym, ap, ◌∙◌, subst, arith, length-append}
+use Rattle.std.proofs.Common.{◌≡◌, ◌≤◌, ℕ, ◌+◌, List, [], ◌∷◌, ◌++◌, length, take, drop, None, refl, sym, ap, ◌∙◌, subst, arith, length-append}
 use Rattle.std.specs.Int.{w32, cast_signed}
-use Rattle.std.proofs.lemmas.List.{append_assoc, append-nil, drop_at, drop-drop, length-drop, length-take-le, take-append-drop}
+use Rattle.std.proofs.lemmas.List.{append_assoc, drop_at, drop-drop, length-drop, length-take-le, take-append-drop}
 use Rattle.byteorder.specs.Endian.{little_number}
 use Rattle.byteorder.specs.Numbers.{little_from-append}
 use Rattle.bson_doc.specs.declared.value.Document.{Document}
-use Rattle.bson_wire.specs.Spelling.{IsInt32, IsDocument, Spells, SpellsWithin}
+use Rattle.bson_wire.specs.Spelling.{IsDocument, Spells, SpellsWithin}
 use Rattle.msg_wire.specs.Flags.{refused_bit}
-use Rattle.msg_wire.specs.Framing.{IsSigned, IsHeader, IsBody, Framed}
+use Rattle.msg_wire.specs.Framing.{IsBody, Framed}
 use Rattle.msg_wire.specs.Reading.{number_at, signed_at}
 use Rattle.msg_wire.specs.declared.message.Message.{Message}
 use Rattle.msg_wire.proofs.Places.{number_at-field}

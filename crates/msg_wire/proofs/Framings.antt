@@ -1,16 +1,16 @@
 -- The bytes of a message that fits are framed.
-use Rattle.std.proofs.Common.{◌≡◌, ◌≤◌, ◌<◌, ◌^◌, ℕ, ℤ, ◌+◌, ◌-◌, List, [], ◌∷◌, ◌++◌, length, None, FitsSigned, refl, sym, ap, ◌∙◌, subst, arith, length-append}
+use Rattle.std.proofs.Common.{◌≡◌, ◌≤◌, ◌<◌, ◌^◌, ℕ, ℤ, ◌+◌, List, [], ◌∷◌, ◌++◌, length, None, FitsSigned, refl, sym, ap, ◌∙◌, subst, arith, length-append}
 use Rattle.std.specs.Int.{w32, cast_signed, cast_unsigned}
 use Rattle.std.proofs.Math.Facts.{Fits-of_z}
 use Rattle.std.proofs.lemmas.Int.{to_z-of_z}
 use Rattle.std.proofs.lemmas.List.{append_assoc, append-nil}
-use Rattle.byteorder.specs.Endian.{little_bytes, little_number}
+use Rattle.byteorder.specs.Endian.{little_number}
 use Rattle.byteorder.specs.Numbers.{length-bytes_low_first, little_number-reads_back}
 use Rattle.bson_doc.specs.declared.value.Document.{Document}
 use Rattle.bson_wire.specs.Spelling.{IsInt32, Spells}
 use Rattle.bson_wire.specs.Spelled.{int32, spelled}
 use Rattle.msg_wire.specs.Flags.{refused_bit}
-use Rattle.msg_wire.specs.Framing.{IsSigned, IsHeader, IsBody, Framed, header, framing, frame, message_of}
+use Rattle.msg_wire.specs.Framing.{IsSigned, IsHeader, Framed, header, framing, frame, message_of}
 
 size-int32 : (n : ℕ) → length (int32 n) ≡ 4
 size-int32 n = length-bytes_low_first 0 4 n

@@ -1,10 +1,8 @@
 -- What reading a header gives, and what is known from it.
-use Rattle.std.proofs.Common.{◌≡◌, ◌≢◌, ◌≤◌, ◌<◌, ℕ, ◌+◌, Bool, true, false, cond, not, eqb, ltb, leb, List, ◌++◌, length, Ok, Err, Result, refl, sym, ap, ◌∙◌, arith, length-append}
+use Rattle.std.proofs.Common.{◌≡◌, ◌≤◌, ℕ, false, cond, not, eqb, ltb, List, length, Ok, Err, refl, arith}
 use Rattle.std.proofs.lemmas.Bool.Decides.{nat_tests}
-use Rattle.msg_wire.specs.declared.fault.MsgFault.{MsgFault}
 use Rattle.msg_wire.specs.declared.fault.MsgFault.TheVariants as fault
 use Rattle.msg_wire.specs.Reading.{is_length, number_at, checked_header, header_at}
-use Rattle.msg_wire.proofs.Places.{number_at-append}
 use Rattle.msg_wire.proofs.Steps.{guard_ok}
 
 -- A header that is in order: its messageLength is in its range and its opCode is that of OP_MSG.

@@ -1,9 +1,7 @@
 -- Reading gives a message exactly where the bytes begin with its frame.
-use Rattle.std.proofs.Common.{◌≡◌, ◌≤◌, ℕ, ◌+◌, Bool, true, false, cond, ltb, List, [], ◌++◌, length, take, drop, Some, None, Option, Result, Ok, Err, refl, sym, ap, ◌∙◌, subst, arith, length-append}
+use Rattle.std.proofs.Common.{◌≡◌, ◌≤◌, ℕ, false, ltb, List, [], ◌++◌, length, take, drop, Some, None, Option, Result, Ok, Err, refl, sym, ap, ◌∙◌, subst, arith, length-append}
 use Rattle.std.proofs.lemmas.List.{append-nil, take_at, take-append-drop, length-take-le, nil_from_length}
 use Rattle.std.proofs.lemmas.Bool.Decides.{nat_tests}
-use Rattle.std.specs.Int.{w32, cast_signed}
-use Rattle.bson_doc.specs.declared.value.Document.{Document}
 use Rattle.msg_wire.specs.Flags.{refused_bit}
 use Rattle.msg_wire.specs.Framing.{Framed}
 use Rattle.msg_wire.specs.Reading.{number_at, signed_at, checked_flags, sections_at, header_at, message_at, read, flaw, fault_of}
@@ -88,6 +86,9 @@ no_prefix bytes more a b p q =
     let y = ap read (sym (append-nil (bytes ++ more))) ∙ read_again (bytes ++ more) [] b q in
     let same : a ≡ b = cc (x, y) in
     nil_from_length more (omega (arith, p.counted, q.counted, ap (λ (m : Message). m.length) same, length-append bytes more))
+
+pub length-Framed : (bytes : List ℕ) (message : Message) → Framed bytes message → 26 ≤ length bytes
+length-Framed bytes message m = (FramedByPlaces-from_Framed bytes message m).least
 
 fault_of-none : {A : Type 0} (r : Result A MsgFault) → fault_of r ≡ None → (x : A) × (r ≡ Ok x)
 fault_of-none (Ok x) h = (x, refl)

@@ -16,7 +16,7 @@ pub record AsksFor (bytes : List ℕ) (n : ℕ) : Type 0 where
 -- The bytes are as many as their header says: a message at their front is all of them, no more are asked for, and the
 -- header has no fault.
 pub record IsWhole (bytes : List ℕ) : Type 0 where
-  pub all : (n : ℕ) (message : Message) → Framed (take n bytes) message → take n bytes ≡ bytes
+  pub all : (n : ℕ) (message : Message) → Framed (take n bytes) message → Framed bytes message
   pub not_short : (n : ℕ) → flaw bytes ≢ Some (fault.Short n)
   pub not_length : (got : ℤ) → flaw bytes ≢ Some (fault.Length got)
   pub not_opcode : (got : ℤ) → flaw bytes ≢ Some (fault.Opcode got)

@@ -22,6 +22,11 @@ pub fn no_prefix()
     ensures { (bytes more : List ℕ) (a b : Message) → Framed bytes a → Framed (bytes ++ more) b → more ≡ [] }
 {}
 
+/// A framed message has at least 26 bytes.
+pub fn at_least()
+    ensures { (bytes : List ℕ) (message : Message) → Framed bytes message → 26 ≤ length bytes }
+{}
+
 /// Bytes have no flaw exactly where they begin with a framed message.
 pub fn flawless()
     ensures { (bytes : List ℕ) → flaw bytes ≡ None ↔ (n : ℕ) × (message : Message) × Framed (take n bytes) message }

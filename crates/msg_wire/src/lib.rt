@@ -18,6 +18,7 @@ mod fault;
 mod fields;
 mod flags;
 mod laws;
+mod limits;
 mod message;
 mod reading;
 #[cfg(test)]
@@ -26,7 +27,8 @@ mod writing;
 
 pub use fault::MsgFault;
 pub use laws::{
-    enough, flawless, frames, header_first, no_prefix, one_message, read_again, settled, short,
+    at_least, enough, flawless, frames, header_first, no_prefix, one_message, read_again, settled,
+    short,
 };
 pub use message::Message;
 pub use reading::{need, read};

@@ -8,21 +8,13 @@ ghost use Rattle.bson_wire.specs.Reading as documents;
 
 use crate::fields::{number, signed};
 use crate::flags::refused_bit_of;
+use crate::limits::{
+    FLAG_BITS, HEADER, LEAST_BYTES, MOST_BYTES, OP_CODE, OP_MSG, REQUEST_ID, RESPONSE_TO, SECTIONS,
+};
 use crate::{Message, MsgFault};
 use bson_doc::Document;
 use bson_wire::{BsonFault, decode};
 use std::alloc::Global;
-
-/// How many bytes a header has.
-const HEADER: usize = 16;
-
-/// The opcode of OP_MSG.
-const OP_MSG: u32 = 2013;
-
-/// The least and the greatest length of a message.
-const LEAST_BYTES: u32 = 26;
-
-const MOST_BYTES: u32 = 48_000_000;
 
 /// The messageLength at the front of the bytes, where four bytes are there and it is from 26 to 48,000,000.
 pub fn need(bytes: &[u8]) -> Option<u32>
@@ -32,7 +24,7 @@ pub fn need(bytes: &[u8]) -> Option<u32>
         return None;
     }
     let total = number(bytes, 0);
-    (LEAST_BYTES <= total && total <= MOST_BYTES).then_some(total)
+    (LEAST_BYTES..=MOST_BYTES).contains(&total).then_some(total)
 }
 
 /// Reads the message at the front of the bytes. No byte behind the message is read.
@@ -68,15 +60,17 @@ fn header_of(bytes: &[u8]) -> Result<u32, MsgFault>
     ensures most { IfOk result (λ n. n ≤ 48000000) }
 {
     if bytes.len() < HEADER {
-        return Err(MsgFault::Short { need: 16 });
+        return Err(MsgFault::Short {
+            need: HEADER as u32,
+        });
     }
     let total = number(bytes, 0);
-    if total < LEAST_BYTES || MOST_BYTES < total {
+    if !(LEAST_BYTES..=MOST_BYTES).contains(&total) {
         return Err(MsgFault::Length {
             got: total.cast_signed(),
         });
     }
-    let code = number(bytes, 12);
+    let code = number(bytes, OP_CODE);
     if code != OP_MSG {
         return Err(MsgFault::Opcode {
             got: code.cast_signed(),
@@ -94,12 +88,12 @@ fn message_of(alloc: Global, bytes: &[u8]) -> Result<Message, MsgFault>
     requires most { length bytes.now ≤ 48000000 }
     ensures { Gives (λ m. m) result (message_at bytes.now) }
 {
-    let flags = flags_of(number(bytes, 16))?;
+    let flags = flags_of(number(bytes, FLAG_BITS))?;
     let length = bytes.len() as u32;
-    let body = body_of(alloc, length, &bytes[20..])?;
+    let body = body_of(alloc, length, &bytes[SECTIONS..])?;
     Ok(Message {
-        id: signed(bytes, 4),
-        to: signed(bytes, 8),
+        id: signed(bytes, REQUEST_ID),
+        to: signed(bytes, RESPONSE_TO),
         flags,
         body,
         length,

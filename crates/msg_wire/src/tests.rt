@@ -73,16 +73,18 @@ fn insert(alloc: Global) -> Result<Document, Fail> {
 }
 
 #[test]
+#[tactic(auto, unfolding(crate::specs::Flags::refused_bit))]
 fn writes_the_insert(rt: HostRuntime) -> Result<(), Fail> {
     let alloc = rt.alloc();
     let bytes = write(alloc, 1, 0, 0, &insert(alloc)?)?;
     assert_eq!(rt; bytes.as_slice(), INSERT.as_slice());
-    let negative = write(alloc, -2, i32::MIN, 0x0001_0002, &Document::new(alloc))?;
-    let front = [
-        0x1a, 0, 0, 0, 0xfe, 0xff, 0xff, 0xff, 0, 0, 0, 0x80, 0xdd, 7, 0, 0, 2, 0, 1, 0, 0,
+    // Each field at a bound of its type, and the flags that a message may have.
+    let bytes = write(alloc, -2, i32::MIN, 0x0001_0002, &Document::new(alloc))?;
+    let wanted = [
+        0x1a, 0, 0, 0, 0xfe, 0xff, 0xff, 0xff, 0, 0, 0, 0x80, 0xdd, 7, 0, 0, 2, 0, 1, 0, 0, 5, 0,
+        0, 0, 0,
     ];
-    assert_eq!(rt; negative.len(), 26);
-    assert_eq!(rt; &negative.as_slice()[..21], front.as_slice());
+    assert_eq!(rt; bytes.as_slice(), wanted.as_slice());
     Ok(())
 }
 
@@ -232,7 +234,7 @@ fn judges_flags(rt: HostRuntime) -> Result<(), Fail> {
     let alloc = rt.alloc();
     for bit in 0..32 {
         let bytes = message(alloc, 26, 2013, 1 << bit, &[0, 5, 0, 0, 0, 0])?;
-        let refused = bit == 0 || (2 <= bit && bit <= 15);
+        let refused = bit == 0 || (2..=15).contains(&bit);
         let wanted = if refused {
             Some(MsgFault::Flags { bit })
         } else {

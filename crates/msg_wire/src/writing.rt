@@ -5,19 +5,11 @@ ghost use Rattle.bson_wire.specs.Spelled.{int32};
 ghost use Rattle.msg_wire.specs.Flags.{refused_bit};
 ghost use Rattle.msg_wire.specs.Framing.{Framed, frame, framing, header, message_of};
 
+use crate::limits::{FRONT, MOST_BYTES, OP_MSG};
 use bson_doc::{Bytes, Document, Memory};
 use bson_wire::{EncodeFault, encode};
 use byteorder::{ByteOrder, LittleEndian};
 use std::alloc::Global;
-
-/// How many bytes stand in front of the document: the header, flagBits and the section's kind.
-const FRONT: usize = 21;
-
-/// The greatest length of a message.
-const MOST_BYTES: usize = 48_000_000;
-
-/// The opcode of OP_MSG.
-const OP_MSG: u32 = 2013;
 
 /// The bytes of a message with one section of kind 0, whose requestID is `id` and whose responseTo is `to`.
 ///
@@ -40,7 +32,7 @@ pub fn write(
         (λ e. e ≡ EncodeFault.Long → (depth_of body.now ≤ 100) × (48000000 < length (frame id to flags body.now))) }
 {
     let spelling = encode(alloc, body)?;
-    if spelling.len() > MOST_BYTES - FRONT {
+    if FRONT + spelling.len() > MOST_BYTES as usize {
         return Err(EncodeFault::Long);
     }
     let bytes = framing_of(alloc, id, to, flags, spelling.as_slice())?;

@@ -1,6 +1,6 @@
-use Rattle.std.proofs.Common.{ap, ◌∙◌}
+use Rattle.std.proofs.Common.{ap}
 use Rattle.std.proofs.lemmas.List.{take_rest}
-use Rattle.msg_wire.specs.Reading.{Fails, document_at}
+use Rattle.msg_wire.specs.Reading.{document_at}
 use Rattle.msg_wire.proofs.Bodies.{read-spelled, Fails-body_fault}
 use Rattle.msg_wire.proofs.reading.document_of.Goals as goal
 

@@ -9,6 +9,7 @@ use Rattle.bson_wire.specs.Reading.{flaw}
 use Rattle.bson_wire.specs.Reading as documents
 use Rattle.bson_wire.proofs.Outermost.{read_again}
 use Rattle.msg_wire.specs.Reading.{Fails, body_fault, document_at}
+use Rattle.msg_wire.specs.declared.fault.MsgFault.TheVariants as fault
 
 -- A front that spells a document is what reading takes.
 pub read-spelled : (bytes : List ℕ) (n : ℕ) (document : Document) → Spells (take n bytes) document → documents.read bytes ≡ Ok (document, drop n bytes)
@@ -23,12 +24,16 @@ read-flawed : (bytes : List ℕ) (e : BsonFault) → flaw bytes ≡ Some e → d
 unfolding flaw
 read-flawed bytes e h = read-from_fault (documents.read bytes) e h
 
+fails-body : (place : ℕ) (bytes : List ℕ) (e : BsonFault) → (e ≢ bson_fault.Memory → flaw bytes ≡ Some e) → e ≢ bson_fault.Memory
+    → (document_at place (documents.read bytes) ≡ Err (fault.Body place e)) × (e ≢ bson_fault.Memory)
+fails-body place bytes e h other = (ap (document_at place) (read-flawed bytes e (h other)), other)
+
 -- A fault of the document is a fault of its section.
 pub Fails-body_fault : (place : ℕ) (bytes : List ℕ) (e : BsonFault) → (e ≢ bson_fault.Memory → flaw bytes ≡ Some e) → Fails (body_fault place e) (document_at place (documents.read bytes))
 Fails-body_fault place bytes bson_fault.Memory h = tt
-Fails-body_fault place bytes bson_fault.Short h = (ap (document_at place) (read-flawed bytes bson_fault.Short (h (λ q. cc))), λ q. cc)
-Fails-body_fault place bytes (bson_fault.Length at) h = (ap (document_at place) (read-flawed bytes (bson_fault.Length at) (h (λ q. cc))), λ q. cc)
-Fails-body_fault place bytes (bson_fault.Kind at byte) h = (ap (document_at place) (read-flawed bytes (bson_fault.Kind at byte) (h (λ q. cc))), λ q. cc)
-Fails-body_fault place bytes (bson_fault.Utf8 at) h = (ap (document_at place) (read-flawed bytes (bson_fault.Utf8 at) (h (λ q. cc))), λ q. cc)
-Fails-body_fault place bytes (bson_fault.Bool at byte) h = (ap (document_at place) (read-flawed bytes (bson_fault.Bool at byte) (h (λ q. cc))), λ q. cc)
-Fails-body_fault place bytes (bson_fault.Deep at) h = (ap (document_at place) (read-flawed bytes (bson_fault.Deep at) (h (λ q. cc))), λ q. cc)
+Fails-body_fault place bytes bson_fault.Short h = fails-body place bytes bson_fault.Short h (λ q. cc)
+Fails-body_fault place bytes (bson_fault.Length at) h = fails-body place bytes (bson_fault.Length at) h (λ q. cc)
+Fails-body_fault place bytes (bson_fault.Kind at byte) h = fails-body place bytes (bson_fault.Kind at byte) h (λ q. cc)
+Fails-body_fault place bytes (bson_fault.Utf8 at) h = fails-body place bytes (bson_fault.Utf8 at) h (λ q. cc)
+Fails-body_fault place bytes (bson_fault.Bool at byte) h = fails-body place bytes (bson_fault.Bool at byte) h (λ q. cc)
+Fails-body_fault place bytes (bson_fault.Deep at) h = fails-body place bytes (bson_fault.Deep at) h (λ q. cc)

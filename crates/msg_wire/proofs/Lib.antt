@@ -1,11 +1,11 @@
 mod Answered
-mod Asked
+pub mod Asked
 mod Bodies
 mod ByPlaces
-mod Framings
+pub mod Framings
 mod Headers
 mod Messages
 mod Places
 mod Sections
 mod Steps
-mod Whole
+pub mod Whole

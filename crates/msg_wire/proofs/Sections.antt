@@ -1,31 +1,24 @@
 -- Reading sections gives a document exactly where they are its body.
-use Rattle.std.proofs.Common.{◌≡◌, ℕ, zero, suc, ◌-◌, false, cond, List, [], ◌∷◌, length, take, drop, None, Ok, Err, eqb, refl, sym, ap, ◌∙◌, subst, arith}
+use Rattle.std.proofs.Common.{◌≡◌, ℕ, zero, suc, ◌-◌, false, cond, List, [], ◌∷◌, ◌++◌, length, take, drop, None, Ok, Err, eqb, refl, sym, ap, ◌∙◌, subst, arith}
 use Rattle.std.proofs.lemmas.List.{append-nil, length-drop, take_all}
 use Rattle.std.proofs.lemmas.Bool.Decides.{nat_tests}
 use Rattle.bson_doc.specs.declared.value.Document.{Document}
 use Rattle.bson_wire.specs.Spelling.{Spells}
 use Rattle.bson_wire.specs.Reading.{flaw}
 use Rattle.bson_wire.specs.Reading as documents
-use Rattle.bson_wire.proofs.Outermost.{read_again, has_spelling}
+use Rattle.bson_wire.proofs.Outermost.{read_takes, read_again}
 use Rattle.msg_wire.specs.Framing.{IsBody}
 use Rattle.msg_wire.specs.Reading.{document_at, sections_at}
 use Rattle.msg_wire.specs.declared.fault.MsgFault.TheVariants as fault
 use Rattle.msg_wire.proofs.Bodies.{read-spelled}
 use Rattle.msg_wire.proofs.Steps.{bind_ok, err_ok}
 
-flaw-read : (bytes : List ℕ) (x : Document × List ℕ) → documents.read bytes ≡ Ok x → flaw bytes ≡ None
-unfolding flaw
-flaw-read bytes x h = ap documents.fault_of h
-
 -- A document that is read with nothing behind it is spelled by all of the bytes.
 spells-read : (bytes : List ℕ) (x : Document × List ℕ) → documents.read bytes ≡ Ok x → x.1 ≡ [] → Spells bytes x.0
 spells-read bytes x h nothing =
-    let found = has_spelling bytes (flaw-read bytes x h) in
-    let again = read-spelled bytes found.0 found.1 found.2 in
-    let same : x ≡ (found.1, drop found.0 bytes) = cc (again, h) in
-    let behind : drop found.0 bytes ≡ [] = sym (ap (λ (y : Document × List ℕ). y.1) same) ∙ nothing in
-    let all : take found.0 bytes ≡ bytes = take_all found.0 bytes (omega (arith, length-drop found.0 bytes, ap length behind)) in
-    subst (λ (y : List ℕ). Spells y x.0) all (subst (λ (d : Document). Spells (take found.0 bytes) d) (sym (ap (λ (y : Document × List ℕ). y.0) same)) found.2)
+    let taken = read_takes bytes x h in
+    let all : taken.text ≡ bytes = sym (append-nil taken.text) ∙ ap (λ rest. taken.text ++ rest) (sym nothing) ∙ sym taken.parts in
+    subst (λ (text : List ℕ). Spells text x.0) all taken.spells
 
 document_at-ok : (place : ℕ) (read : documents.Read Document) (x : Document × List ℕ) → document_at place read ≡ Ok x → read ≡ Ok x
 document_at-ok place (Ok y) x h = cc

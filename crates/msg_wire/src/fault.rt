@@ -17,7 +17,7 @@ pub enum MsgFault {
     #[error("the flag bit {bit} is not known")]
     Flags { bit: u32 },
     /// A section of another kind than 0 or a second one begins at the place, or the message ends there without one.
-    #[error("no section of kind 0 stands alone at {at}")]
+    #[error("the sections are not one of kind 0, at {at}")]
     Sections { at: u32 },
     /// The document at the place does not read. The place in its fault counts from the document's front, and the fault
     /// is never `Memory`.

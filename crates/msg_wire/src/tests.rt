@@ -6,7 +6,7 @@ use bson_wire::BsonFault;
 use std::alloc::{AllocError, Global};
 use std::test::Fail;
 
-/// The insert of `{_id: 7}` into collection `a` of database `test`, as request 1.
+/// The insert of `{_id: 7}` into collection `a` of database `test`, with the id 1.
 const INSERT: [u8; 150] = [
     0x96, 0, 0, 0, 1, 0, 0, 0, 0, 0, 0, 0, 0xdd, 7, 0, 0, 0, 0, 0, 0, 0, // header, flags, kind
     0x81, 0, 0, 0, 2, b'i', b'n', b's', b'e', b'r', b't', 0, 2, 0, 0, 0, b'a', 0, //
@@ -19,13 +19,13 @@ const INSERT: [u8; 150] = [
     2, b'$', b'd', b'b', 0, 5, 0, 0, 0, b't', b'e', b's', b't', 0, 0,
 ];
 
-/// The reply `{n: 1, ok: 1.0}` with id 7 to request 1.
+/// The reply `{n: 1, ok: 1.0}` with the id 7 to the id 1.
 const REPLY: [u8; 45] = [
     0x2d, 0, 0, 0, 7, 0, 0, 0, 1, 0, 0, 0, 0xdd, 7, 0, 0, 0, 0, 0, 0, 0, // header, flags, kind
     0x18, 0, 0, 0, 0x10, b'n', 0, 1, 0, 0, 0, 1, b'o', b'k', 0, 0, 0, 0, 0, 0, 0, 0xf0, 0x3f, 0, //
 ];
 
-/// The reply `{ok: 1.0}` with id 7 to request 1.
+/// The reply `{ok: 1.0}` with the id 7 to the id 1.
 const SHORT_REPLY: [u8; 38] = [
     0x26, 0, 0, 0, 7, 0, 0, 0, 1, 0, 0, 0, 0xdd, 7, 0, 0, 0, 0, 0, 0, 0, // header, flags, kind
     0x11, 0, 0, 0, 1, b'o', b'k', 0, 0, 0, 0, 0, 0, 0, 0xf0, 0x3f, 0, //
@@ -161,7 +161,7 @@ fn fault(alloc: Global, bytes: &[u8]) -> Option<MsgFault> {
     read(alloc, bytes).err()
 }
 
-/// The bytes of a message with id 7 to request 1.
+/// The bytes of a message with the id 7 to the id 1.
 fn message(
     alloc: Global,
     total: u32,

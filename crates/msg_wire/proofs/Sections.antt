@@ -1,6 +1,6 @@
 -- Reading sections gives a document exactly where they are its body.
-use Rattle.std.proofs.Common.{◌≡◌, ℕ, zero, suc, ◌-◌, false, cond, List, [], ◌∷◌, ◌++◌, length, take, drop, None, Ok, Err, eqb, refl, sym, ap, ◌∙◌, subst, arith}
-use Rattle.std.proofs.lemmas.List.{append-nil, length-drop, take_all}
+use Rattle.std.proofs.Common.{◌≡◌, ℕ, zero, suc, ◌-◌, false, cond, List, [], ◌∷◌, ◌++◌, length, Ok, Err, eqb, refl, sym, ap, ◌∙◌, subst, arith}
+use Rattle.std.proofs.lemmas.List.{append-nil}
 use Rattle.std.proofs.lemmas.Bool.Decides.{nat_tests}
 use Rattle.bson_doc.specs.declared.value.Document.{Document}
 use Rattle.bson_wire.specs.Spelling.{Spells}
@@ -10,7 +10,6 @@ use Rattle.bson_wire.proofs.Outermost.{read_takes, read_again}
 use Rattle.msg_wire.specs.Framing.{IsBody}
 use Rattle.msg_wire.specs.Reading.{document_at, sections_at}
 use Rattle.msg_wire.specs.declared.fault.MsgFault.TheVariants as fault
-use Rattle.msg_wire.proofs.Bodies.{read-spelled}
 use Rattle.msg_wire.proofs.Steps.{bind_ok, err_ok}
 
 -- A document that is read with nothing behind it is spelled by all of the bytes.

@@ -1,5 +1,6 @@
 ghost use Rattle.std.specs.Prelude.{◌≡◌, ◌≢◌, ◌≤◌, ℕ, List, ◌++◌, length, take, Some, None, IfOk, IfErr, OnOk, Err, MatchResult};
 ghost use Rattle.msg_wire.specs.declared.message.Message.{Message};
+ghost use Rattle.msg_wire.specs.Asking.{IsWhole};
 ghost use Rattle.msg_wire.specs.Framing.{Framed};
 ghost use Rattle.msg_wire.specs.Reading.{Gives, header_at, checked_flags, document_at, body_fault, sections_at, message_at, number_at, need_of, flaw};
 ghost use Rattle.msg_wire.specs.Reading as spec;
@@ -40,6 +41,10 @@ pub fn read(alloc: Global, bytes: &[u8]) -> Result<Message, MsgFault>
     ensures sound { OnOk result (flaw bytes.now ≡ None) }
     ensures fault { IfErr result (λ e. e ≢ MsgFault.Memory → flaw bytes.now ≡ Some e) }
     ensures body { (at : ℕ) → result ≢ Err (MsgFault.Body at BsonFault.Memory) }
+
+    // Where the bytes are as many as their header says, the message is all of them, and no more are asked for.
+    ensures whole { IsWhole bytes.now
+        → MatchResult result (λ m. Framed bytes.now m) (λ e. (n : ℕ) → e ≢ MsgFault.Short n) }
 {
     whole(alloc, bytes)
 }

@@ -1,4 +1,4 @@
-use Rattle.msg_wire.proofs.Answered.{found, only, sound, flawed}
+use Rattle.msg_wire.proofs.Answered.{found, only, sound, flawed, all_of_it}
 use Rattle.msg_wire.proofs.reading.read.Goals as goal
 
 pub returns-clause-found : goal.returns-clause-found
@@ -12,3 +12,6 @@ returns-clause-sound c = sound c.args.bytes.now c.whole.result c.whole.ensures
 
 pub returns-clause-fault : goal.returns-clause-fault
 returns-clause-fault c = flawed c.args.bytes.now c.whole.result c.whole.ensures
+
+pub returns-clause-whole : goal.returns-clause-whole
+returns-clause-whole c = all_of_it c.args.bytes.now c.whole.result c.whole.ensures

@@ -28,13 +28,16 @@ pub fn need(bytes: &[u8]) -> Option<u32>
     (LEAST_BYTES..=MOST_BYTES).contains(&total).then_some(total)
 }
 
-/// Reads the message at the front of the bytes. No byte behind the message is read.
+/// Reads the message at the front of the bytes. Bytes behind it do not matter ([`settled`](crate::settled)), and a header
+/// that is out of order is refused before more than its 16 bytes are there.
 pub fn read(alloc: Global, bytes: &[u8]) -> Result<Message, MsgFault>
     // What is read is framed so.
-    ensures found { IfOk result (λ m. (m.length ≤ length bytes.now) × Framed (take m.length bytes.now) m) }
+    ensures found { IfOk result
+        (λ m. (m.length ≤ length bytes.now) × Framed (take m.length bytes.now) m) }
 
     // What is framed so is read, whatever follows, unless memory runs out.
-    ensures only { (text more : List ℕ) (message : Message) → bytes.now ≡ text ++ more → Framed text message
+    ensures only { (text more : List ℕ) (message : Message)
+        → bytes.now ≡ text ++ more → Framed text message
         → MatchResult result (λ m. m ≡ message) (λ e. e ≡ MsgFault.Memory) }
 
     // An Ok comes only where the bytes have no flaw, and a fault is the first one that is met.

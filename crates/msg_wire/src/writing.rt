@@ -26,10 +26,12 @@ pub fn write(
     ensures framed { IfOk result (λ bytes. Framed bytes (message_of id to flags body.now)) }
 
     // Each fault comes exactly where the document has it, unless memory runs out.
-    ensures fits { OnOk result ((depth_of body.now ≤ 100) × (length (frame id to flags body.now) ≤ 48000000)) }
+    ensures fits { OnOk result
+        ((depth_of body.now ≤ 100) × (length (frame id to flags body.now) ≤ 48000000)) }
     ensures deep { IfErr result (λ e. e ≡ EncodeFault.Deep → 100 < depth_of body.now) }
     ensures long { IfErr result
-        (λ e. e ≡ EncodeFault.Long → (depth_of body.now ≤ 100) × (48000000 < length (frame id to flags body.now))) }
+        (λ e. e ≡ EncodeFault.Long
+        → (depth_of body.now ≤ 100) × (48000000 < length (frame id to flags body.now))) }
 {
     let spelling = encode(alloc, body)?;
     if FRONT + spelling.len() > MOST_BYTES as usize {

@@ -1,0 +1,209 @@
+-- What Short asks for, and what is known once as many bytes are there.
+use Rattle.std.proofs.Common.{◌≡◌, ◌≢◌, ◌≤◌, ◌<◌, ℕ, ℤ, Bool, true, false, cond, not, eqb, ltb, leb, List, [], ◌∷◌, zero, suc, ◌++◌, length, take, drop, Option, Some, None, Result, Ok, Err, IfErr, refl, sym, ap, ◌∙◌, subst, arith, length-append, inl, inr, ◌⊎◌}
+use Rattle.std.proofs.lemmas.Bool.{cases_lt}
+use Rattle.std.proofs.lemmas.Bool.Decides.{nat_tests}
+use Rattle.std.proofs.lemmas.List.{take_all, take-append-le, length-take-le}
+use Rattle.std.specs.Int.{w32, cast_signed}
+use Rattle.bson_doc.specs.declared.value.Document.{Document}
+use Rattle.bson_wire.specs.Reading as documents
+use Rattle.msg_wire.specs.Asking.{AsksFor, IsWhole}
+use Rattle.msg_wire.specs.Flags.{refused_bit}
+use Rattle.msg_wire.specs.Framing.{Framed}
+use Rattle.msg_wire.specs.Reading.{number_at, is_length, need_of, checked_header, header_at, checked_flags, document_at, sections_at, message_at, read, flaw, fault_of}
+use Rattle.msg_wire.specs.declared.fault.MsgFault.{MsgFault}
+use Rattle.msg_wire.specs.declared.fault.MsgFault.TheVariants as fault
+use Rattle.msg_wire.specs.declared.message.Message.{Message}
+use Rattle.msg_wire.proofs.ByPlaces.{FramedByPlaces-from_Framed}
+use Rattle.msg_wire.proofs.Headers.{InOrder, InOrder-from_tests, header_at-whole}
+use Rattle.msg_wire.proofs.Places.{number_at-append, number_at-take}
+use Rattle.msg_wire.proofs.Steps.{IfErr-bind, err_ok, err_same, err_from_fault}
+
+-- A fault of what stands behind the header.
+abbrev pub IsBehind : MsgFault → Type 0
+IsBehind (fault.Short need) = ⊥
+IsBehind (fault.Length got) = ⊥
+IsBehind (fault.Opcode got) = ⊥
+IsBehind _ = Unit {0}
+
+IsBehind-checked_flags : (flags : ℕ) (refused : Option ℕ) → IfErr (checked_flags flags refused) IsBehind
+IsBehind-checked_flags flags None = tt
+IsBehind-checked_flags flags (Some bit) = tt
+
+IsBehind-document_at : (place : ℕ) (read : documents.Read Document) → IfErr (document_at place read) IsBehind
+IsBehind-document_at place (Ok x) = tt
+IsBehind-document_at place (Err e) = tt
+
+IsBehind-last : (b : Bool) (d : Document) (at : ℕ) → IfErr (cond b (Ok d) (Err (fault.Sections at))) IsBehind
+IsBehind-last true d at = tt
+IsBehind-last false d at = tt
+
+IsBehind-sections_at : (end : ℕ) (bytes : List ℕ) → IfErr (sections_at end bytes) IsBehind
+unfolding sections_at
+IsBehind-sections_at end [] = tt
+IsBehind-sections_at end (suc kind ∷ rest) = tt
+IsBehind-sections_at end (zero ∷ rest) = IfErr-bind IsBehind (document_at _ (documents.read rest)) _ (IsBehind-document_at _ (documents.read rest)) (λ x. IsBehind-last _ x.0 _)
+
+IsBehind-message_at : (bytes : List ℕ) → IfErr (message_at bytes) IsBehind
+unfolding message_at
+IsBehind-message_at bytes =
+    IfErr-bind IsBehind (checked_flags (number_at 16 bytes) (refused_bit (number_at 16 bytes))) _ (IsBehind-checked_flags (number_at 16 bytes) (refused_bit (number_at 16 bytes)))
+    (λ flags. IfErr-bind IsBehind (sections_at (length bytes) (drop 20 bytes)) _ (IsBehind-sections_at (length bytes) (drop 20 bytes)) (λ body. tt))
+
+-- A fault of the header's own numbers.
+abbrev pub IsRefusal : MsgFault → Type 0
+IsRefusal (fault.Length got) = Unit {0}
+IsRefusal (fault.Opcode got) = Unit {0}
+IsRefusal _ = ⊥
+
+-- The header has a fault of its own, however many bytes are there.
+abbrev IsRefused : ℕ → ℕ → Type 0
+IsRefused total code = (e : MsgFault) × IsRefusal e × ((there : ℕ) → checked_header there total code ≡ Err e)
+
+judged_by : (total code : ℕ) (a b : Bool) → not (is_length total) ≡ a → not (eqb code 2013) ≡ b → InOrder total code ⊎ IsRefused total code
+judged_by total code true b p q = inr (fault.Length (cast_signed w32 total), tt, λ there. rw p refl)
+judged_by total code false true p q = inr (fault.Opcode (cast_signed w32 code), tt, λ there. rw (p, q) refl)
+judged_by total code false false p q = inl (InOrder-from_tests total code p q)
+
+judged : (total code : ℕ) → InOrder total code ⊎ IsRefused total code
+judged total code = judged_by total code (not (is_length total)) (not (eqb code 2013)) refl refl
+
+read-early : (bytes : List ℕ) → length bytes < 16 → read bytes ≡ Err (fault.Short 16)
+unfolding read header_at
+read-early bytes few = let test : ltb (length bytes) 16 ≡ true = grind (arith, nat_tests) in rw test refl
+
+read-refused : (bytes : List ℕ) (e : MsgFault) → 16 ≤ length bytes → checked_header (length bytes) (number_at 0 bytes) (number_at 12 bytes) ≡ Err e → read bytes ≡ Err e
+unfolding read header_at
+read-refused bytes e there h = let test : ltb (length bytes) 16 ≡ false = grind (arith, nat_tests) in rw (test, h) refl
+
+read-partial : (bytes : List ℕ) → 16 ≤ length bytes → InOrder (number_at 0 bytes) (number_at 12 bytes) → length bytes < number_at 0 bytes
+    → read bytes ≡ Err (fault.Short (number_at 0 bytes))
+unfolding read
+read-partial bytes there order few =
+    let test : ltb (length bytes) (number_at 0 bytes) ≡ true = grind (arith, nat_tests) in
+    rw (header_at-whole bytes there order, test) refl
+
+read-whole : (bytes : List ℕ) → 16 ≤ length bytes → InOrder (number_at 0 bytes) (number_at 12 bytes) → number_at 0 bytes ≤ length bytes
+    → read bytes ≡ message_at (take (number_at 0 bytes) bytes)
+unfolding read
+read-whole bytes there order enough =
+    let test : ltb (length bytes) (number_at 0 bytes) ≡ false = grind (arith, nat_tests) in
+    rw (header_at-whole bytes there order, test) refl
+
+not_behind : (r : Result Message MsgFault) (e : MsgFault) → IfErr r IsBehind → r ≡ Err e → (IsBehind e → ⊥) → ⊥
+not_behind (Ok m) e b h front = absurd (err_ok (sym h))
+not_behind (Err f) e b h front = front (subst IsBehind (err_same (Err f) f e refl h) b)
+
+read-flaw : (bytes : List ℕ) (e : MsgFault) → flaw bytes ≡ Some e → read bytes ≡ Err e
+unfolding flaw
+read-flaw bytes e h = err_from_fault (read bytes) e h
+
+flaw-read : (bytes : List ℕ) (e : MsgFault) → read bytes ≡ Err e → flaw bytes ≡ Some e
+unfolding flaw
+flaw-read bytes e h = ap fault_of h
+
+flaw-same : (a b : List ℕ) → read a ≡ read b → flaw a ≡ flaw b
+unfolding flaw
+flaw-same a b h = ap fault_of h
+
+need_of-in_order : (bytes : List ℕ) → 16 ≤ length bytes → InOrder (number_at 0 bytes) (number_at 12 bytes) → need_of bytes ≡ Some (number_at 0 bytes)
+need_of-in_order bytes there order =
+    let four : ltb (length bytes) 4 ≡ false = grind (arith, nat_tests) in
+    let least : leb 26 (number_at 0 bytes) ≡ true = grind (arith, nat_tests, order.least) in
+    let most : leb (number_at 0 bytes) 48000000 ≡ true = grind (arith, nat_tests, order.most) in
+    rw (four, least, most) refl
+
+short_is : (r : Result Message MsgFault) (a n : ℕ) → r ≡ Err (fault.Short a) → r ≡ Err (fault.Short n) → a ≡ n
+short_is r a n p q = cc
+
+-- Where a whole header asks for more bytes, it is in order, and what it asks for is its messageLength.
+pub record Waits (bytes : List ℕ) (n : ℕ) : Type 0 where
+  pub order : InOrder (number_at 0 bytes) (number_at 12 bytes)
+  pub total : number_at 0 bytes ≡ n
+  pub fewer : length bytes < n
+
+pub Waits-from_flaw : (bytes : List ℕ) (n : ℕ) → 16 ≤ length bytes → flaw bytes ≡ Some (fault.Short n) → Waits bytes n
+Waits-from_flaw bytes n there h = elim (judged (number_at 0 bytes) (number_at 12 bytes)) [
+  | inr refused ↦
+      let same = err_same (read bytes) refused.0 (fault.Short n) (read-refused bytes refused.0 there (refused.2 (length bytes))) (read-flaw bytes (fault.Short n) h) in
+      absurd (subst IsRefusal same refused.1)
+  | inl order ↦ elim (cases_lt (length bytes) (number_at 0 bytes)) [
+    | inl few ↦
+        let total = short_is (read bytes) (number_at 0 bytes) n (read-partial bytes there order few) (read-flaw bytes (fault.Short n) h) in
+        record { order = order; total = total; fewer = omega arith }
+    | inr enough ↦ absurd (not_behind (message_at (take (number_at 0 bytes) bytes)) (fault.Short n) (IsBehind-message_at (take (number_at 0 bytes) bytes)) (sym (read-whole bytes there order enough) ∙ read-flaw bytes (fault.Short n) h) (λ b. b))
+  ]
+]
+
+pub asks : (bytes : List ℕ) (n : ℕ) → flaw bytes ≡ Some (fault.Short n) → AsksFor bytes n
+asks bytes n h = elim (cases_lt (length bytes) 16) [
+  | inl few ↦
+      let same : 16 ≡ n = short_is (read bytes) 16 n (read-early bytes few) (read-flaw bytes (fault.Short n) h) in
+      record { more = omega arith; header = λ l. sym same; message = λ there. absurd (omega arith) }
+  | inr there ↦
+      let w = Waits-from_flaw bytes n there h in
+      record { more = w.fewer; header = λ l. absurd (omega arith); message = λ l. need_of-in_order bytes there w.order ∙ ap Some w.total }
+]
+
+pub settled : (bytes more : List ℕ) → ((n : ℕ) → flaw bytes ≢ Some (fault.Short n)) → flaw (bytes ++ more) ≡ flaw bytes
+settled bytes more h = elim (cases_lt (length bytes) 16) [
+  | inl few ↦ absurd (h 16 (flaw-read bytes (fault.Short 16) (read-early bytes few)))
+  | inr there ↦
+      let total = number_at-append 0 bytes more (omega arith) in
+      let code = number_at-append 12 bytes more (omega arith) in
+      let there' : 16 ≤ length (bytes ++ more) = omega (arith, length-append bytes more) in
+      elim (judged (number_at 0 bytes) (number_at 12 bytes)) [
+        | inr refused ↦
+            let later = read-refused (bytes ++ more) refused.0 there' (rw (total, code) (refused.2 (length (bytes ++ more)))) in
+            flaw-same (bytes ++ more) bytes (later ∙ sym (read-refused bytes refused.0 there (refused.2 (length bytes))))
+        | inl order ↦ elim (cases_lt (length bytes) (number_at 0 bytes)) [
+          | inl few ↦ absurd (h (number_at 0 bytes) (flaw-read bytes (fault.Short (number_at 0 bytes)) (read-partial bytes there order few)))
+          | inr enough ↦
+              let order' : InOrder (number_at 0 (bytes ++ more)) (number_at 12 (bytes ++ more)) = rw (total, code) order in
+              let later = read-whole (bytes ++ more) there' order' (omega (arith, total, length-append bytes more)) in
+              let cut : take (number_at 0 (bytes ++ more)) (bytes ++ more) ≡ take (number_at 0 bytes) bytes = rw total (take-append-le (number_at 0 bytes) bytes more enough) in
+              flaw-same (bytes ++ more) bytes (later ∙ ap message_at cut ∙ sym (read-whole bytes there order enough))
+        ]
+      ]
+]
+
+-- Where the header is in order, no fault is its own.
+not_refusal : (bytes : List ℕ) (e : MsgFault) → 16 ≤ length bytes → InOrder (number_at 0 bytes) (number_at 12 bytes) → IsRefusal e → (IsBehind e → ⊥) → e ≢ fault.Short (number_at 0 bytes) → flaw bytes ≢ Some e
+not_refusal bytes e there order r b s h = elim (cases_lt (length bytes) (number_at 0 bytes)) [
+  | inl few ↦ s (err_same (read bytes) e (fault.Short (number_at 0 bytes)) (read-flaw bytes e h) (read-partial bytes there order few))
+  | inr enough ↦ not_behind (message_at (take (number_at 0 bytes) bytes)) e (IsBehind-message_at (take (number_at 0 bytes) bytes)) (sym (read-whole bytes there order enough) ∙ read-flaw bytes e h) b
+]
+
+in_order-append : (bytes more : List ℕ) → 16 ≤ length bytes → InOrder (number_at 0 bytes) (number_at 12 bytes) → InOrder (number_at 0 (bytes ++ more)) (number_at 12 (bytes ++ more))
+in_order-append bytes more there order = rw (number_at-append 0 bytes more (omega arith), number_at-append 12 bytes more (omega arith)) order
+
+pub header_first : (bytes more : List ℕ) (n : ℕ) (got : ℤ) → 16 ≤ length bytes → flaw bytes ≡ Some (fault.Short n)
+    → (flaw (bytes ++ more) ≢ Some (fault.Length got)) × (flaw (bytes ++ more) ≢ Some (fault.Opcode got))
+header_first bytes more n got there h =
+    let w = Waits-from_flaw bytes n there h in
+    let order = in_order-append bytes more there w.order in
+    let there' : 16 ≤ length (bytes ++ more) = omega (arith, length-append bytes more) in
+    (not_refusal (bytes ++ more) (fault.Length got) there' order tt (λ b. b) (λ e. cc), not_refusal (bytes ++ more) (fault.Opcode got) there' order tt (λ b. b) (λ e. cc))
+
+-- A front that is framed says itself how long it is.
+take-framed : (bytes : List ℕ) (k : ℕ) (message : Message) → Framed (take k bytes) message → number_at 0 bytes ≡ length bytes → take k bytes ≡ bytes
+take-framed bytes k message m total =
+    let p = FramedByPlaces-from_Framed (take k bytes) message m in
+    elim (cases_lt k (length bytes)) [
+      | inl less ↦
+          let size = length-take-le k bytes (omega arith) in
+          absurd (omega (arith, p.least, p.total, number_at-take 0 k bytes (omega (arith, p.least, size)) (omega arith), size))
+      | inr more ↦ take_all k bytes more
+    ]
+
+pub enough : (bytes more : List ℕ) (n : ℕ) → 16 ≤ length bytes → flaw bytes ≡ Some (fault.Short n) → length (bytes ++ more) ≡ n → IsWhole (bytes ++ more)
+enough bytes more n there h whole =
+    let w = Waits-from_flaw bytes n there h in
+    let first = header_first bytes more n in
+    let total : number_at 0 (bytes ++ more) ≡ length (bytes ++ more) = number_at-append 0 bytes more (omega arith) ∙ w.total ∙ sym whole in
+    let there' : 16 ≤ length (bytes ++ more) = omega (arith, length-append bytes more) in
+    record {
+      all = λ k message m. subst (λ (whole : List ℕ). Framed whole message) (take-framed (bytes ++ more) k message m total) m;
+      not_short = λ k e. let later = Waits-from_flaw (bytes ++ more) k there' e in omega (arith, later.total, later.fewer, total);
+      not_length = λ got. (first got there h).0;
+      not_opcode = λ got. (first got there h).1;
+    }

@@ -1,0 +1,89 @@
+-- The bytes of a message that fits are framed.
+use Rattle.std.proofs.Common.{◌≡◌, ◌≤◌, ◌<◌, ◌^◌, ℕ, ℤ, ◌+◌, List, [], ◌∷◌, ◌++◌, length, None, FitsSigned, refl, sym, ap, ◌∙◌, subst, arith, length-append}
+use Rattle.std.specs.Int.{w32, cast_signed, cast_unsigned}
+use Rattle.std.proofs.Math.Facts.{Fits-of_z}
+use Rattle.std.proofs.lemmas.Int.{to_z-of_z}
+use Rattle.std.proofs.lemmas.List.{append_assoc, append-nil}
+use Rattle.byteorder.specs.Endian.{little_number}
+use Rattle.byteorder.specs.Numbers.{length-bytes_low_first, little_number-reads_back}
+use Rattle.bson_doc.specs.declared.value.Document.{Document}
+use Rattle.bson_wire.specs.Spelling.{IsInt32, Spells}
+use Rattle.bson_wire.specs.Spelled.{int32, spelled}
+use Rattle.msg_wire.specs.Flags.{refused_bit}
+use Rattle.msg_wire.specs.Framing.{IsSigned, IsHeader, Framed, header, framing, frame, message_of}
+
+size-int32 : (n : ℕ) → length (int32 n) ≡ 4
+size-int32 n = length-bytes_low_first 0 4 n
+
+number-int32 : (n : ℕ) → n < 2 ^ 32 → little_number 4 (int32 n) ≡ n
+number-int32 n h = ap (little_number 4) (sym (append-nil (int32 n))) ∙ little_number-reads_back 4 n [] h
+
+IsInt32-int32 : (n : ℕ) → n < 2 ^ 32 → IsInt32 (int32 n) n
+IsInt32-int32 n h = record { size = size-int32 n; reads = number-int32 n h }
+
+IsSigned-int32 : (z : ℤ) → FitsSigned w32 z → IsSigned (int32 (cast_unsigned w32 z)) z
+IsSigned-int32 z h = record {
+  size = size-int32 (cast_unsigned w32 z);
+  reads = ap (cast_signed w32) (number-int32 (cast_unsigned w32 z) (Fits-of_z h).fits) ∙ to_z-of_z w32 z h;
+}
+
+IsHeader-header : (total : ℕ) (id to : ℤ) → total < 2 ^ 32 → FitsSigned w32 id → FitsSigned w32 to → IsHeader (header total id to) total id to
+unfolding header
+IsHeader-header total id to t i o = record {
+  total_field = int32 total;
+  id_field = int32 (cast_unsigned w32 id);
+  to_field = int32 (cast_unsigned w32 to);
+  code_field = int32 2013;
+  parts = simp append_assoc;
+  is_total = IsInt32-int32 total t;
+  is_id = IsSigned-int32 id i;
+  is_to = IsSigned-int32 to o;
+  is_code = IsInt32-int32 2013 (omega arith);
+}
+
+length-header : (total : ℕ) (id to : ℤ) → length (header total id to) ≡ 16
+unfolding header
+length-header total id to = refl
+
+pub length-framing : (id to : ℤ) (flags : ℕ) (spelling : List ℕ) → length (framing id to flags spelling) ≡ length spelling + 21
+unfolding framing
+length-framing id to flags spelling =
+    let a = length-header (length spelling + 21) id to in
+    let b = length-append (header (length spelling + 21) id to) (int32 flags) in
+    let c = length-append (header (length spelling + 21) id to ++ int32 flags) (0 ∷ spelling) in
+    omega (arith, a, b, c, size-int32 flags)
+
+-- The bytes with any spelling of the document are framed.
+pub Framed-framing : (id to : ℤ) (flags : ℕ) (spelling : List ℕ) (body : Document) → FitsSigned w32 id → FitsSigned w32 to → flags < 2 ^ 32 → refused_bit flags ≡ None
+    → Spells spelling body → length (framing id to flags spelling) ≤ 48000000
+    → Framed (framing id to flags spelling) (record { id = id; to = to; flags = flags; body = body; length = length (framing id to flags spelling) })
+unfolding framing
+Framed-framing id to flags spelling body i o f known spells size =
+    let total = length-framing id to flags spelling in
+    let front = IsHeader-header (length spelling + 21) id to (omega arith) i o in
+    record {
+      header = header (length spelling + 21) id to;
+      flags = int32 flags;
+      sections = 0 ∷ spelling;
+      parts = append_assoc (header (length spelling + 21) id to) (int32 flags) (0 ∷ spelling);
+      is_header = subst (λ (n : ℕ). IsHeader (header (length spelling + 21) id to) n id to) (sym total) front;
+      is_flags = IsInt32-int32 flags f;
+      known = known;
+      is_body = record { spelling = spelling; parts = refl; spells = spells };
+      counted = refl;
+      size = size;
+    }
+
+pub Framed-frame : (id to : ℤ) (flags : ℕ) (body : Document) → FitsSigned w32 id → FitsSigned w32 to → flags < 2 ^ 32 → refused_bit flags ≡ None
+    → Spells (spelled body) body → length (frame id to flags body) ≤ 48000000 → Framed (frame id to flags body) (message_of id to flags body)
+unfolding frame
+Framed-frame id to flags body i o f known spells size = Framed-framing id to flags (spelled body) body i o f known spells size
+
+pub length-frame : (id to : ℤ) (flags : ℕ) (body : Document) → length (frame id to flags body) ≡ length (spelled body) + 21
+unfolding frame
+length-frame id to flags body = length-framing id to flags (spelled body)
+
+-- What is written of a spelling is the frame where the spelling is the document's one.
+pub frame-spelled : (id to : ℤ) (flags : ℕ) (spelling : List ℕ) (body : Document) → spelling ≡ spelled body → framing id to flags spelling ≡ frame id to flags body
+unfolding frame
+frame-spelled id to flags spelling body h = ap (framing id to flags) h

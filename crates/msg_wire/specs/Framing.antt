@@ -1,0 +1,66 @@
+-- Which bytes frame a message: a relation by cases over whole byte strings (MongoDB wire protocol, OP_MSG). Neither a
+-- place nor an order of reading stands here.
+use Rattle.std.specs.Prelude.{◌≡◌, ℕ, ℤ, ◌+◌, ◌≤◌, List, ◌∷◌, ◌++◌, length, None}
+use Rattle.std.specs.Int.{w32, cast_signed, cast_unsigned}
+use Rattle.byteorder.specs.Endian.{little_number}
+use Rattle.bson_doc.specs.declared.value.Document.{Document}
+use Rattle.bson_wire.specs.Spelling.{IsInt32, Spells}
+use Rattle.bson_wire.specs.Spelled.{int32, spelled}
+use Rattle.msg_wire.specs.Flags.{refused_bit}
+use Rattle.msg_wire.specs.declared.message.Message.{Message}
+
+-- Four bytes, the lowest first, that read as the signed number (MongoDB wire protocol, int32).
+pub record IsSigned (bytes : List ℕ) (n : ℤ) : Type 0 where
+  pub size : length bytes ≡ 4
+  pub reads : cast_signed w32 (little_number 4 bytes) ≡ n
+
+-- The header: messageLength, requestID, responseTo and opCode, which is 2013 (MongoDB wire protocol, Standard Message
+-- Header and OP_MSG).
+pub record IsHeader (bytes : List ℕ) (total : ℕ) (id to : ℤ) : Type 0 where
+  pub total_field : List ℕ
+  pub id_field : List ℕ
+  pub to_field : List ℕ
+  pub code_field : List ℕ
+  pub parts : bytes ≡ total_field ++ (id_field ++ (to_field ++ code_field))
+  pub is_total : IsInt32 total_field total
+  pub is_id : IsSigned id_field id
+  pub is_to : IsSigned to_field to
+  pub is_code : IsInt32 code_field 2013
+
+-- A section of kind 0: the byte 00 and one document (MongoDB wire protocol, OP_MSG, Sections, Kind 0: Body).
+pub record IsBody (bytes : List ℕ) (document : Document) : Type 0 where
+  pub spelling : List ℕ
+  pub parts : bytes ≡ 0 ∷ spelling
+  pub spells : Spells spelling document
+
+-- The bytes frame the message: a header, whose messageLength counts all of them, flagBits, and sections (MongoDB wire
+-- protocol, OP_MSG). Own: there is exactly one section of kind 0 and no other, and there are at most 48,000,000 bytes.
+-- There are at least 26, since a document has at least 5.
+pub record Framed (bytes : List ℕ) (message : Message) : Type 0 where
+  pub header : List ℕ
+  pub flags : List ℕ
+  pub sections : List ℕ
+  pub parts : bytes ≡ header ++ (flags ++ sections)
+  pub is_header : IsHeader header (length bytes) message.id message.to
+  pub is_flags : IsInt32 flags message.flags
+  pub known : refused_bit message.flags ≡ None
+  pub is_body : IsBody sections message.body
+  pub counted : message.length ≡ length bytes
+  pub size : length bytes ≤ 48000000
+
+-- The header of a message of so many bytes.
+unfoldable pub header : ℕ → ℤ → ℤ → List ℕ
+header total id to = int32 total ++ int32 (cast_unsigned w32 id) ++ int32 (cast_unsigned w32 to) ++ int32 2013
+
+-- The header, flagBits, and one section of kind 0 with these bytes of a document. In front of them stand 21 bytes.
+unfoldable pub framing : ℤ → ℤ → ℕ → List ℕ → List ℕ
+framing id to flags spelling = header (length spelling + 21) id to ++ int32 flags ++ 0 ∷ spelling
+
+-- The bytes of the message with one section of kind 0, which holds the document in its one spelling.
+unfoldable pub frame : ℤ → ℤ → ℕ → Document → List ℕ
+frame id to flags document = framing id to flags (spelled document)
+
+-- The message of those bytes.
+abbrev pub message_of : ℤ → ℤ → ℕ → Document → Message
+message_of id to flags document =
+    record { id = id; to = to; flags = flags; body = document; length = length (frame id to flags document) }

@@ -1,0 +1,4 @@
+pub mod Asking
+pub mod Flags
+pub mod Framing
+pub mod Reading

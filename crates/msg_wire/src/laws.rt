@@ -1,0 +1,77 @@
+//! Laws of framed messages, each the contract of a function that does nothing.
+
+ghost use Rattle.std.specs.Prelude.{◌≡◌, ◌≢◌, ◌↔◌, ◌<◌, ◌≤◌, ◌^◌, ℕ, ℤ, List, [], ◌++◌, length, take, Some, None, Ok, FitsSigned};
+ghost use Rattle.std.specs.Int.{w32};
+ghost use Rattle.bson_doc.specs.declared.value.Document.{Document};
+ghost use Rattle.bson_wire.specs.Spelling.{Spells};
+ghost use Rattle.bson_wire.specs.Spelled.{spelled};
+ghost use Rattle.msg_wire.specs.Asking.{AsksFor, IsWhole};
+ghost use Rattle.msg_wire.specs.Flags.{refused_bit};
+ghost use Rattle.msg_wire.specs.Framing.{Framed, frame, message_of};
+ghost use Rattle.msg_wire.specs.Reading.{read, flaw};
+ghost use Rattle.msg_wire.specs.declared.message.Message.{Message};
+
+use crate::MsgFault;
+
+/// Bytes frame at most one message.
+pub fn one_message()
+    ensures { (bytes : List ℕ) (a b : Message) → Framed bytes a → Framed bytes b → a ≡ b }
+{}
+
+/// No framed message begins another one.
+pub fn no_prefix()
+    ensures { (bytes more : List ℕ) (a b : Message)
+        → Framed bytes a → Framed (bytes ++ more) b → more ≡ [] }
+{}
+
+/// A framed message has at least 26 bytes.
+pub fn at_least()
+    ensures { (bytes : List ℕ) (message : Message) → Framed bytes message → 26 ≤ length bytes }
+{}
+
+/// Bytes have no flaw exactly where they begin with a framed message.
+pub fn flawless()
+    ensures { (bytes : List ℕ)
+        → flaw bytes ≡ None ↔ (n : ℕ) × (message : Message) × Framed (take n bytes) message }
+{}
+
+/// What is framed so is read again, whatever follows.
+pub fn read_again()
+    ensures { (bytes more : List ℕ) (message : Message)
+        → Framed bytes message → read (bytes ++ more) ≡ Ok message }
+{}
+
+/// The bytes of a message that fits are framed, and so they are read again, whatever follows.
+pub fn frames()
+    ensures { (id to : ℤ) (flags : ℕ) (body : Document)
+        → FitsSigned w32 id → FitsSigned w32 to → flags < 2 ^ 32 → refused_bit flags ≡ None
+        → Spells (spelled body) body → length (frame id to flags body) ≤ 48000000
+        → Framed (frame id to flags body) (message_of id to flags body) }
+{}
+
+/// `Short` names more bytes than are there: 16, or behind a whole header its messageLength.
+pub fn short()
+    ensures { (bytes : List ℕ) (n : ℕ) → flaw bytes ≡ Some (MsgFault.Short n) → AsksFor bytes n }
+{}
+
+/// Where the bytes are enough for an answer, what follows them does not change it: a reader looks at no byte behind the
+/// message, and at none behind the header where the header is out of order.
+pub fn settled()
+    ensures { (bytes more : List ℕ)
+        → ((n : ℕ) → flaw bytes ≢ Some (MsgFault.Short n)) → flaw (bytes ++ more) ≡ flaw bytes }
+{}
+
+/// The header is judged as soon as it is there: where it asks for more bytes, no later fault is its own.
+pub fn header_first()
+    ensures { (bytes more : List ℕ) (n : ℕ) (got : ℤ)
+        → 16 ≤ length bytes → flaw bytes ≡ Some (MsgFault.Short n)
+        → (flaw (bytes ++ more) ≢ Some (MsgFault.Length got))
+        × (flaw (bytes ++ more) ≢ Some (MsgFault.Opcode got)) }
+{}
+
+/// As many bytes as the header asked for are enough, and a message at their front is all of them.
+pub fn enough()
+    ensures { (bytes more : List ℕ) (n : ℕ)
+        → 16 ≤ length bytes → flaw bytes ≡ Some (MsgFault.Short n) → length (bytes ++ more) ≡ n
+        → IsWhole (bytes ++ more) }
+{}

@@ -1,0 +1,6 @@
+pub mod Judge
+pub mod Pool
+pub mod Entries
+pub mod Answers
+pub mod Parts
+pub mod Inside

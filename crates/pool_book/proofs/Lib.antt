@@ -1,2 +1,4 @@
 pub mod ListLemmas
 pub mod AnswerLemmas
+pub mod TimesLemmas
+pub mod SoundLemmas

@@ -9,7 +9,6 @@ use Rattle.pool_book.specs.declared.connections.Held.{Held}
 use Rattle.pool_book.specs.declared.connections.Available.{Available}
 use Rattle.pool_book.specs.declared.answers.CloseReason.{CloseReason}
 use Rattle.pool_book.specs.declared.answers.CloseReason.TheVariants.{Errored, PoolClosed}
-use Rattle.pool_book.specs.Judge.{Legal, state_after}
 use Rattle.pool_book.specs.Pool.{Pool, fresh_pool, is_paused, is_ready, is_closed, ticket_of, without_ticket, held_of, without_held, without_available, last_of, is_perished, is_swept, perish_reason, shut_reason, is_worthless, is_kept, is_cleared, is_late, is_served, has_place, can_take}
 
 -- Why a ticket has no connection (CMAP, ConnectionCheckOutFailedEvent: poolClosed, connectionError for a cleared pool,

@@ -1,5 +1,8 @@
--- A judge over entries: when each may stand, and what is behind it.
-use Rattle.std.specs.Prelude.{List, [], ◌∷◌}
+-- A judge over a pool's entries: when each may stand, and what is behind it.
+use Rattle.std.specs.Prelude.{◌≡◌, ℕ, List, [], ◌∷◌, ◌++◌, map}
+use Rattle.pool_book.specs.declared.rules.PoolRules.{PoolRules}
+use Rattle.pool_book.specs.Pool.{Pool, fresh_pool}
+use Rattle.pool_book.specs.Entries.{PoolEntry, MayStand, after, owes, Goes}
 
 -- Each entry may stand where those ahead of it lead (own: a trail is judged entry by entry).
 abbrev pub Legal : {S E : Type 0} → (S → E → Type 0) → (S → E → S) → S → List E → Type 0
@@ -10,3 +13,54 @@ Legal May next s (e ∷ es) = May s e × Legal May next (next s e) es
 abbrev pub state_after : {S E : Type 0} → (S → E → S) → S → List E → S
 state_after next s [] = s
 state_after next s (e ∷ es) = state_after next (next s e) es
+
+-- An entry and its moment.
+pub record Timed : Type 0 where
+  pub at : ℕ
+  pub what : PoolEntry
+
+-- A pool, and what must follow at once.
+pub record Judged : Type 0 where
+  pub pool : Pool
+  pub owed : List PoolEntry
+
+-- What must follow at once comes next; where nothing must, what may stand.
+abbrev pub ComesNext : List PoolEntry → PoolEntry → Type 0 → Type 0
+ComesNext [] e May = May
+ComesNext (d ∷ ds) e May = e ≡ d
+
+abbrev pub Stands : Judged → Timed → Type 0
+Stands j t = ComesNext j.owed t.what (MayStand j.pool t.at t.what)
+
+-- An entry moves the pool, and owes what must follow it; one that was owed pays, since the entry that owed it moved the
+-- pool for both.
+abbrev pub moved_by : Pool → List PoolEntry → Timed → Judged
+moved_by p [] t = record { pool = after p t.at t.what; owed = owes p t.what }
+moved_by p (d ∷ ds) t = record { pool = p; owed = ds }
+
+abbrev pub moved : Judged → Timed → Judged
+moved j t = moved_by j.pool j.owed t
+
+-- A pool of which nothing must follow.
+abbrev pub settled : Pool → Judged
+settled p = record { pool = p; owed = [] }
+
+-- Entries of a pool from its beginning on, each where it may stand (CMAP, Connection Pool).
+abbrev pub IsTrail : PoolRules → List Timed → Type 0
+IsTrail rules ts = Legal Stands moved (settled (fresh_pool rules)) ts
+
+-- The pool behind them, and what must follow.
+abbrev pub place_behind : PoolRules → List Timed → Judged
+place_behind rules ts = state_after moved (settled (fresh_pool rules)) ts
+
+-- Entries of one moment.
+abbrev pub timed : ℕ → List PoolEntry → List Timed
+timed moment es = map (λ e. record { at = moment; what = e }) es
+
+-- The entries of a trail.
+abbrev pub entries_of : List Timed → List PoolEntry
+entries_of ts = map (λ t. t.what) ts
+
+-- An entry that is not owed, and what must follow it at once.
+abbrev pub group : Pool → PoolEntry → List PoolEntry
+group p e = e ∷ owes p e

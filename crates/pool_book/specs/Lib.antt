@@ -4,3 +4,5 @@ pub mod Entries
 pub mod Answers
 pub mod Parts
 pub mod Inside
+pub mod Told
+pub mod Sound

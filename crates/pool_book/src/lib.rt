@@ -22,11 +22,10 @@ mod connections;
 mod held_list;
 mod rules;
 mod state;
+#[cfg(test)]
+mod tests;
 mod ticket;
 mod ticket_line;
-
-//#[cfg(test)]
-//mod tests;
 
 pub use answers::{CloseReason, Fate, Settled, Swept, Take};
 pub use book::PoolBook;

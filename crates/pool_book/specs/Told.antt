@@ -1,0 +1,75 @@
+-- What the entries so far say of a pool, each word of the standard by itself.
+use Rattle.std.specs.Prelude.{ℕ, ◌+◌, Bool, not, ◌==◌, List, [], ◌∷◌, ◌++◌, filter, map}
+use Rattle.wait_line.specs.Line.{without_number}
+use Rattle.pool_book.specs.declared.state.PoolState.{PoolState}
+use Rattle.pool_book.specs.declared.state.PoolState.TheVariants as state_of
+use Rattle.pool_book.specs.Entries.{PoolEntry, Ready, Clear, Shut, Entered, Left, Lent, Dialled, Settled, NotLent, CheckedIn, ConnShut}
+
+-- What entries say, one after another.
+abbrev pub told : {X : Type 0} → (X → PoolEntry → X) → X → List PoolEntry → X
+told says x [] = x
+told says x (e ∷ es) = told says (says x e) es
+
+-- The generation is the number of clears (CMAP, Clearing a Connection Pool).
+abbrev pub clears : ℕ → PoolEntry → ℕ
+clears g Clear = g + 1
+clears g e = g
+
+-- A pool is closed once it was closed; else ready where it was made ready since its last clear; else paused (CMAP,
+-- Connection Pool).
+abbrev pub opens : PoolState → PoolEntry → PoolState
+opens state_of.Closed e = state_of.Closed
+opens s Ready = state_of.Ready
+opens s Clear = state_of.Paused
+opens s Shut = state_of.Closed
+opens s e = s
+
+-- Those wait that entered and since neither got nor dialled a connection, nor got none, nor left (CMAP, WaitQueue).
+abbrev pub waits : List ℕ → PoolEntry → List ℕ
+waits ns (Entered number) = ns ++ number ∷ []
+waits ns (Left number) = without_number number ns
+waits ns (Lent number conn) = without_number number ns
+waits ns (Dialled number conn) = without_number number ns
+waits ns (NotLent number why) = without_number number ns
+waits ns e = ns
+
+-- Those are pending that were dialled and since neither settled nor shut (CMAP, Establishing a Connection).
+abbrev pub pends : List ℕ → PoolEntry → List ℕ
+pends cs (Dialled number conn) = cs ++ conn ∷ []
+pends cs (Settled number conn stale) = without_number conn cs
+pends cs (ConnShut conn reason) = without_number conn cs
+pends cs e = cs
+
+-- Those are available that were checked in and since neither lent nor shut (CMAP, Checking In a Connection).
+abbrev pub frees : List ℕ → PoolEntry → List ℕ
+frees cs (CheckedIn number conn errored) = cs ++ conn ∷ []
+frees cs (Lent number conn) = without_number conn cs
+frees cs (ConnShut conn reason) = without_number conn cs
+frees cs e = cs
+
+-- A ticket and its connection.
+pub record Pair : Type 0 where
+  pub ticket : ℕ
+  pub conn : ℕ
+
+-- Those pairs are lent that were lent and of which the connection was not checked in since (CMAP, Checking Out a
+-- Connection, Checking In a Connection).
+abbrev pub lends : List Pair → PoolEntry → List Pair
+lends ps (Lent number conn) = ps ++ record { ticket = number; conn = conn } ∷ []
+lends ps (CheckedIn number conn errored) = filter (λ q. not (q.conn == conn)) ps
+lends ps e = ps
+
+-- A connection and its generation.
+pub record Born : Type 0 where
+  pub conn : ℕ
+  pub generation : ℕ
+
+-- The generation so far, and the connections that were dialled, each of the generation of its dial (CMAP, Connection).
+pub record Dials : Type 0 where
+  pub now : ℕ
+  pub born : List Born
+
+abbrev pub bears : Dials → PoolEntry → Dials
+bears d Clear = record d { now = d.now + 1 }
+bears d (Dialled number conn) = record d { born = d.born ++ record { conn = conn; generation = d.now } ∷ [] }
+bears d e = d

@@ -1,8 +1,11 @@
 -- What the entries so far say of a pool, each word of the standard by itself.
-use Rattle.std.specs.Prelude.{ℕ, ◌+◌, Bool, not, ◌==◌, List, [], ◌∷◌, ◌++◌, filter, map}
+use Rattle.std.specs.Prelude.{ℕ, ◌+◌, Bool, not, ◌==◌, List, [], ◌∷◌, ◌++◌, filter, map, if◌then◌else◌}
 use Rattle.wait_line.specs.Line.{without_number}
 use Rattle.pool_book.specs.declared.state.PoolState.{PoolState}
 use Rattle.pool_book.specs.declared.state.PoolState.TheVariants as state_of
+use Rattle.pool_book.specs.declared.connections.Held.{Held}
+use Rattle.pool_book.specs.declared.connections.Available.{Available}
+use Rattle.pool_book.specs.Pool.{is_closed}
 use Rattle.pool_book.specs.Entries.{PoolEntry, Ready, Clear, Shut, Entered, Left, Lent, Dialled, Settled, NotLent, CheckedIn, ConnShut}
 
 -- What entries say, one after another.
@@ -18,9 +21,8 @@ clears g e = g
 -- A pool is closed once it was closed; else ready where it was made ready since its last clear; else paused (CMAP,
 -- Connection Pool).
 abbrev pub opens : PoolState → PoolEntry → PoolState
-opens state_of.Closed e = state_of.Closed
-opens s Ready = state_of.Ready
-opens s Clear = state_of.Paused
+opens s Ready = if is_closed s then state_of.Closed else state_of.Ready
+opens s Clear = if is_closed s then state_of.Closed else state_of.Paused
 opens s Shut = state_of.Closed
 opens s e = s
 
@@ -58,6 +60,16 @@ abbrev pub lends : List Pair → PoolEntry → List Pair
 lends ps (Lent number conn) = ps ++ record { ticket = number; conn = conn } ∷ []
 lends ps (CheckedIn number conn errored) = filter (λ q. not (q.conn == conn)) ps
 lends ps e = ps
+
+-- The same of the connections that a pool holds.
+abbrev pub conns_of : List Held → List ℕ
+conns_of hs = map (λ h. h.conn) hs
+
+abbrev pub pairs_of : List Held → List Pair
+pairs_of hs = map (λ h. record { ticket = h.ticket; conn = h.conn }) hs
+
+abbrev pub free_of : List Available → List ℕ
+free_of xs = map (λ a. a.conn) xs
 
 -- A connection and its generation.
 pub record Born : Type 0 where

@@ -3,3 +3,6 @@ pub mod AnswerLemmas
 pub mod TimesLemmas
 pub mod SoundLemmas
 pub mod ToldLemmas
+pub mod TrailLemmas
+pub mod LentLemmas
+pub mod SpentLemmas

@@ -52,13 +52,13 @@ told-trail f g h rules ts l =
     ∙ told-legal f g h (fresh_pool rules) [] ts (f (fresh_pool rules)) (Sound-fresh rules) refl l
 
 -- what does not speak of connections that are shut says nothing of those that must be
-told-shuts : {X : Type 0} (g : X → PoolEntry → X) (x : X) (xs : List Available) → ((y : X) (c : ℕ) (r : CloseReason) → g y (ConnShut c r) ≡ y) →
+pub told-shuts : {X : Type 0} (g : X → PoolEntry → X) (x : X) (xs : List Available) → ((y : X) (c : ℕ) (r : CloseReason) → g y (ConnShut c r) ≡ y) →
     told g x (map (λ a. ConnShut a.conn PoolClosed) xs) ≡ x
 told-shuts g x [] h = refl
 told-shuts g x (a ∷ xs) h =
     ap (λ y. told g y (map (λ a. ConnShut a.conn PoolClosed) xs)) (h x a.conn PoolClosed) ∙ told-shuts g x xs h
 
-told-owes_shut : {X : Type 0} (g : X → PoolEntry → X) (x : X) (p : Pool) (errored : Bool) (o : Option Held) → ((y : X) (c : ℕ) (r : CloseReason) → g y (ConnShut c r) ≡ y) →
+pub told-owes_shut : {X : Type 0} (g : X → PoolEntry → X) (x : X) (p : Pool) (errored : Bool) (o : Option Held) → ((y : X) (c : ℕ) (r : CloseReason) → g y (ConnShut c r) ≡ y) →
     told g x (owes_shut p errored o) ≡ x
 told-owes_shut g x p errored None h = refl
 told-owes_shut g x p errored (Some k) h =
@@ -132,7 +132,7 @@ without-absent key k xs none =
     sym (map-without key k xs) ∙ ap (λ ys. map key ys) (filter-times_none (λ x. eqb (key x) k) xs none)
 
 -- what is found has other numbers too
-times-found_by : {X : Type 0} (p q : X → Bool) (xs : List X) (x : X) → find p xs ≡ Some x → q x ≡ true → 1 ≤ times q xs
+pub times-found_by : {X : Type 0} (p q : X → Bool) (xs : List X) (x : X) → find p xs ≡ Some x → q x ≡ true → 1 ≤ times q xs
 times-found_by p q [] x e t = absurd (cc)
 times-found_by p q (y ∷ ys) x e t =
     elim (p y) as (λ b. cond b (Some y) (find p ys) ≡ Some x → 1 ≤ times q (y ∷ ys)) [
@@ -176,7 +176,7 @@ told-owes_shut_of g x y p errored o h e kept shut =
 conn-found : (conn : ℕ) (hs : List Held) (h : Held) → held_of conn hs ≡ Some h → h.conn ≡ conn
 conn-found conn hs h e = eqb-true _ _ (find-passes (λ (x : Held). eqb x.conn conn) hs h e)
 
-times-at : {X : Type 0} (q : X → Bool) (xs : List X) (k : ℕ) (x : X) → slice_get xs k ≡ Some x → q x ≡ true → 1 ≤ times q xs
+pub times-at : {X : Type 0} (q : X → Bool) (xs : List X) (k : ℕ) (x : X) → slice_get xs k ≡ Some x → q x ≡ true → 1 ≤ times q xs
 times-at q [] k x e t = absurd (cc)
 times-at q (y ∷ ys) zero x e t = let same : y ≡ x = cc in rw (same, t) (omega arith)
 times-at q (y ∷ ys) (suc k) x e t = let rest = times-at q ys k x e t in omega arith
@@ -242,7 +242,7 @@ map-filter f q (x ∷ xs) =
     | false ↦ map-filter f q xs
     ]
 
-last-conn : (o : Option Available) (a : Available) (conn : ℕ) → o ≡ Some a → option_map (λ (x : Available). x.conn) o ≡ Some conn → a.conn ≡ conn
+pub last-conn : (o : Option Available) (a : Available) (conn : ℕ) → o ≡ Some a → option_map (λ (x : Available). x.conn) o ≡ Some conn → a.conn ≡ conn
 last-conn None a conn e f = absurd (cc)
 last-conn (Some b) a conn e f = cc
 

@@ -64,3 +64,9 @@ entries_of ts = map (λ t. t.what) ts
 -- An entry that is not owed, and what must follow it at once.
 abbrev pub group : Pool → PoolEntry → List PoolEntry
 group p e = e ∷ owes p e
+
+-- A trail leads to a pool of which nothing must follow: what a book's calls have left (own: a book pays what it owes
+-- in the call that owes it).
+pub record LeadsTo (rules : PoolRules) (ts : List Timed) (p : Pool) : Type 0 where
+  pub trail : IsTrail rules ts
+  pub place : place_behind rules ts ≡ settled p

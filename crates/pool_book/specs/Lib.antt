@@ -6,3 +6,4 @@ pub mod Parts
 pub mod Inside
 pub mod Told
 pub mod Sound
+pub mod Laws

@@ -32,32 +32,32 @@ pub find-times_none : {X : Type 0} (p : X → Bool) (xs : List X) → times p xs
 find-times_none p [] h = refl
 find-times_none p (x ∷ xs) h =
     elim (p x) as (λ b. cond b 1 0 + times p xs ≡ 0 → cond b (Some x) (find p xs) ≡ None) [
-      true ↦ λ k. absurd (omega arith)
-    | false ↦ λ k. find-times_none p xs (omega arith)
+      | true ↦ λ k. absurd (omega arith)
+      | false ↦ λ k. find-times_none p xs (omega arith)
     ] h
 
 pub list_any-times_none : {X : Type 0} (p : X → Bool) (xs : List X) → times p xs ≡ 0 → list_any p xs ≡ false
 list_any-times_none p [] h = refl
 list_any-times_none p (x ∷ xs) h =
     elim (p x) as (λ b. cond b 1 0 + times p xs ≡ 0 → (b || list_any p xs) ≡ false) [
-      true ↦ λ k. absurd (omega arith)
-    | false ↦ λ k. list_any-times_none p xs (omega arith)
+      | true ↦ λ k. absurd (omega arith)
+      | false ↦ λ k. list_any-times_none p xs (omega arith)
     ] h
 
 find-append_none : {X : Type 0} (p : X → Bool) (xs : List X) (y : X) → find p xs ≡ None → find p (xs ++ y ∷ []) ≡ cond (p y) (Some y) None
 find-append_none p [] y e = refl
 find-append_none p (x ∷ xs) y e =
     elim (p x) as (λ b. cond b (Some x) (find p xs) ≡ None → cond b (Some x) (find p (xs ++ y ∷ [])) ≡ cond (p y) (Some y) None) [
-      true ↦ λ k. absurd (cc)
-    | false ↦ λ k. find-append_none p xs y k
+      | true ↦ λ k. absurd (cc)
+      | false ↦ λ k. find-append_none p xs y k
     ] e
 
 find-append_some : {X : Type 0} (p : X → Bool) (xs : List X) (x y : X) → find p xs ≡ Some x → find p (xs ++ y ∷ []) ≡ Some x
 find-append_some p [] x y e = absurd (cc)
 find-append_some p (z ∷ zs) x y e =
     elim (p z) as (λ b. cond b (Some z) (find p zs) ≡ Some x → cond b (Some z) (find p (zs ++ y ∷ [])) ≡ Some x) [
-      true ↦ λ k. k
-    | false ↦ λ k. find-append_some p zs x y k
+      | true ↦ λ k. k
+      | false ↦ λ k. find-append_some p zs x y k
     ] e
 
 -- what holds of each holds of one
@@ -135,7 +135,7 @@ HasLent-settled p moment number conn h s e w =
     let pending = times-found (λ (x : Held). eqb x.conn conn) p.pending h e in
     let absent : times_held conn p.lent ≡ 0 = omega (arith, s.once conn) in
     let here : held_of conn (p.lent ++ h ∷ []) ≡ Some h =
-      find-append_none (λ (x : Held). eqb x.conn conn) p.lent h (find-times_none _ p.lent absent) ∙ rw (find-passes (λ (x : Held). eqb x.conn conn) p.pending h e) refl in
+    find-append_none (λ (x : Held). eqb x.conn conn) p.lent h (find-times_none _ p.lent absent) ∙ rw (find-passes (λ (x : Held). eqb x.conn conn) p.pending h e) refl in
     record {
       held = h;
       found = rw e here;
@@ -206,14 +206,14 @@ BornIn-dialled p moment number d b =
     let P : Held → Type 0 = λ h. born_of h.conn (d.born ++ new ∷ []) ≡ Some h.generation in
     let none = b.later (p.dialled + 1) (omega arith) in
     let own : born_of (p.dialled + 1) (d.born ++ new ∷ []) ≡ Some p.generation =
-      rw (find-append_none (λ (x : Born). eqb x.conn (p.dialled + 1)) d.born new none, eq-eqb (p.dialled + 1) (p.dialled + 1) refl) (ap (λ n. Some n) b.generation) in
+    rw (find-append_none (λ (x : Born). eqb x.conn (p.dialled + 1)) d.born new none, eq-eqb (p.dialled + 1) (p.dialled + 1) refl) (ap (λ n. Some n) b.generation) in
     record {
       generation = b.generation;
       pending = All-push P p.pending held (All-weaker (λ (h : Held). born_of h.conn d.born ≡ Some h.generation) P (λ h e. born_of-push h.conn h.generation d.born new e) p.pending b.pending) own;
       lent = All-weaker (λ (h : Held). born_of h.conn d.born ≡ Some h.generation) P (λ h e. born_of-push h.conn h.generation d.born new e) p.lent b.lent;
       available = All-weaker (λ (a : Available). born_of a.conn d.born ≡ Some a.generation) (λ (a : Available). born_of a.conn (d.born ++ new ∷ []) ≡ Some a.generation) (λ a e. born_of-push a.conn a.generation d.born new e) p.available b.available;
       later = λ conn l. find-append_none (λ (x : Born). eqb x.conn conn) d.born new (b.later conn (omega arith)) ∙
-        elim (eqb_tells (p.dialled + 1) conn) [ inl w ↦ absurd (omega arith) | inr w ↦ rw w.0 refl ];
+          elim (eqb_tells (p.dialled + 1) conn) [ inl w ↦ absurd (omega arith) | inr w ↦ rw w.0 refl ];
     }
 
 BornIn-settled : (p : Pool) (moment number conn : ℕ) (d : Dials) (h : Held) → BornIn p d → held_of conn p.pending ≡ Some h →
@@ -247,7 +247,7 @@ BornIn-checked_in p moment number conn errored d h b e =
     let back : Available = record { conn = h.conn; generation = h.generation; since = moment } in
     let own : P h = All-find P (λ (x : Held). eqb x.conn conn) p.lent h b.lent e in
     let pushed : All Q (p.available ++ returned p moment errored (held_of conn p.lent)) =
-      rw e (elim (is_kept p errored h) as (λ k. All Q (p.available ++ cond k (back ∷ []) [])) [ true ↦ All-push Q p.available back b.available own | false ↦ rw append-nil b.available ]) in
+    rw e (elim (is_kept p errored h) as (λ k. All Q (p.available ++ cond k (back ∷ []) [])) [ true ↦ All-push Q p.available back b.available own | false ↦ rw append-nil b.available ]) in
     record {
       generation = b.generation;
       pending = b.pending;
@@ -339,11 +339,11 @@ list_any-at p (y ∷ ys) (suc k) x e t = rw (list_any-at p ys k x e t) (or-true 
 swept_current : (p : Pool) (moment k : ℕ) (a : Available) → is_swept p moment ≡ true → slice_get p.available k ≡ Some a → a.generation ≡ p.generation
 swept_current p moment k a s e =
     elim (eqb_tells a.generation p.generation) [
-      inl w ↦ w.1
-    | inr w ↦
-        let perished : is_perished p moment a ≡ true = rw w.0 refl in
-        let some = list_any-at (is_perished p moment) p.available k a e perished in
-        absurd (let no : not true ≡ true = rw some at s in cc)
+      | inl w ↦ w.1
+      | inr w ↦
+          let perished : is_perished p moment a ≡ true = rw w.0 refl in
+          let some = list_any-at (is_perished p moment) p.available k a e perished in
+          absurd (let no : not true ≡ true = rw some at s in cc)
     ]
 
 counts_itself : (k : ℕ) → cond {A = ℕ} (eqb k k) 1 0 ≡ 1
@@ -371,22 +371,23 @@ free_at p (d ∷ ds) es moment number conn s h l g b m =
     paid p ds s (subst (λ e. Pays p (e ∷ ds)) (sym m) h) (subst (λ e. told lends (told lends [] es) (e ∷ ds) ≡ pairs_of p.lent) (sym m) l)
     (subst (λ e. told clears (told clears 0 es) (e ∷ ds) ≡ p.generation) (sym m) g)
     (subst (λ e. BornIn p (told bears (told bears no_dials es) (e ∷ ds))) (sym m) b) where
-  lent_alone : (q : Pool) → Sound q → HasLent q number conn → told lends [] es ++ record { ticket = number; conn = conn } ∷ [] ≡ pairs_of q.lent →
-      told clears 0 es ≡ q.generation → BornIn q (told bears no_dials es) → IsFree es conn
-  lent_alone q sq x lq gq bq =
-      let own = All-find (λ (k : Held). born_of k.conn (told bears no_dials es).born ≡ Some k.generation) (λ (k : Held). eqb k.conn conn) q.lent x.held bq.lent x.found in
-      let same = eqb-true _ _ (find-passes (λ (k : Held). eqb k.conn conn) q.lent x.held x.found) in
-      let pushed : times (λ (r : Pair). eqb r.conn conn) (told lends [] es ++ record { ticket = number; conn = conn } ∷ []) ≡ times (λ (r : Pair). eqb r.conn conn) (told lends [] es) + cond (eqb conn conn) 1 0 = times-push (λ (r : Pair). eqb r.conn conn) (told lends [] es) (record { ticket = number; conn = conn }) in
-      let all : times (λ (r : Pair). eqb r.conn conn) (told lends [] es ++ record { ticket = number; conn = conn } ∷ []) ≡ times_held conn q.lent = rw lq (times-pairs conn q.lent) in
-      let none : times (λ (r : Pair). eqb r.conn conn) (told lends [] es) ≡ 0 = omega (arith, sq.once conn, counts_itself conn) in
-      record {
-        no_borrower = list_any-times_none _ _ none;
-        current = subst (λ c. born_of c (told bears no_dials es).born ≡ Some (told clears 0 es)) same (own ∙ ap (λ n. Some n) (x.current ∙ sym gq));
-      }
-  paid : (q : Pool) (xs : List PoolEntry) → Sound q → Pays q (Lent number conn ∷ xs) → told lends (told lends [] es) (Lent number conn ∷ xs) ≡ pairs_of q.lent →
-      told clears (told clears 0 es) (Lent number conn ∷ xs) ≡ q.generation → BornIn q (told bears (told bears no_dials es) (Lent number conn ∷ xs)) → IsFree es conn
-  paid q [] sq x lq gq bq = lent_alone q sq x.1 lq gq bq
-  paid q (y ∷ ys) sq x lq gq bq = absurd (let no = x.0 in cc)
+      lent_alone : (q : Pool) → Sound q → HasLent q number conn → told lends [] es ++ record { ticket = number; conn = conn } ∷ [] ≡ pairs_of q.lent →
+          told clears 0 es ≡ q.generation → BornIn q (told bears no_dials es) → IsFree es conn
+      lent_alone q sq x lq gq bq =
+          let own = All-find (λ (k : Held). born_of k.conn (told bears no_dials es).born ≡ Some k.generation) (λ (k : Held). eqb k.conn conn) q.lent x.held bq.lent x.found in
+          let same = eqb-true _ _ (find-passes (λ (k : Held). eqb k.conn conn) q.lent x.held x.found) in
+          let pushed : times (λ (r : Pair). eqb r.conn conn) (told lends [] es ++ record { ticket = number; conn = conn } ∷ []) ≡ times (λ (r : Pair). eqb r.conn conn) (told lends [] es) + cond (eqb conn conn) 1 0 = times-push (λ (r : Pair). eqb r.conn conn) (told lends [] es) (record { ticket = number; conn = conn }) in
+          let all : times (λ (r : Pair). eqb r.conn conn) (told lends [] es ++ record { ticket = number; conn = conn } ∷ []) ≡ times_held conn q.lent = rw lq (times-pairs conn q.lent) in
+          let none : times (λ (r : Pair). eqb r.conn conn) (told lends [] es) ≡ 0 = omega (arith, sq.once conn, counts_itself conn) in
+          record {
+            no_borrower = list_any-times_none _ _ none;
+            current = subst (λ c. born_of c (told bears no_dials es).born ≡ Some (told clears 0 es)) same (own ∙ ap (λ n. Some n) (x.current ∙ sym gq));
+          }
+
+      paid : (q : Pool) (xs : List PoolEntry) → Sound q → Pays q (Lent number conn ∷ xs) → told lends (told lends [] es) (Lent number conn ∷ xs) ≡ pairs_of q.lent →
+          told clears (told clears 0 es) (Lent number conn ∷ xs) ≡ q.generation → BornIn q (told bears (told bears no_dials es) (Lent number conn ∷ xs)) → IsFree es conn
+      paid q [] sq x lq gq bq = lent_alone q sq x.1 lq gq bq
+      paid q (y ∷ ys) sq x lq gq bq = absurd (let no = x.0 in cc)
 
 -- each connection that is lent was free
 pub lent_free : (rules : PoolRules) (ts : List Timed) (moment number conn : ℕ) →

@@ -60,22 +60,22 @@ settled_part q conn ps hs h e m =
 most_one : (n a k : ℕ) → n ≤ 1 → (a ≡ k → n ≡ 0) → n + cond (eqb a k) 1 0 ≤ 1
 most_one n a k most none =
     elim (eqb_tells a k) [
-      inl same ↦ let zero_of = none same.1 in rw same.0 (omega arith)
-    | inr other ↦ rw other.0 (omega arith)
+      | inl same ↦ let zero_of = none same.1 in rw same.0 (omega arith)
+      | inr other ↦ rw other.0 (omega arith)
     ]
 
 none_more : (n a k : ℕ) → n ≡ 0 → (a ≡ k → ⊥) → n + cond (eqb a k) 1 0 ≡ 0
 none_more n a k none other =
     elim (eqb_tells a k) [
-      inl same ↦ absurd (other same.1)
-    | inr differ ↦ rw differ.0 (omega arith)
+      | inl same ↦ absurd (other same.1)
+      | inr differ ↦ rw differ.0 (omega arith)
     ]
 
 Sound-entered : (p : Pool) (moment : ℕ) → Sound p → Sound (after p moment (Entered p.entered))
 Sound-entered p moment s =
     let more : (k : ℕ) → times_in (after p moment (Entered p.entered)) k ≡ times_in p k + cond (eqb p.entered k) 1 0 = λ k.
-      let pushed : times_waiting k (p.waiting ++ ticket_for p moment ∷ []) ≡ times_waiting k p.waiting + cond (eqb p.entered k) 1 0 = times-push (λ (t : Ticket). eqb t.number k) p.waiting (ticket_for p moment) in
-      omega arith in
+    let pushed : times_waiting k (p.waiting ++ ticket_for p moment ∷ []) ≡ times_waiting k p.waiting + cond (eqb p.entered k) 1 0 = times-push (λ (t : Ticket). eqb t.number k) p.waiting (ticket_for p moment) in
+    omega arith in
     record {
       once = s.once;
       dialled = s.dialled;
@@ -148,11 +148,11 @@ Sound-dialled p moment number t s h =
     let new : Held = record { conn = p.dialled + 1; ticket = number; generation = p.generation } in
     let alone : times_waiting number p.waiting ≤ 1 = omega (arith, s.one_place number) in
     let conns : (k : ℕ) → times_of q k ≡ times_of p k + cond (eqb (p.dialled + 1) k) 1 0 = λ k.
-      let pushed : times_held k (p.pending ++ new ∷ []) ≡ times_held k p.pending + cond (eqb (p.dialled + 1) k) 1 0 = times-push (λ (x : Held). eqb x.conn k) p.pending new in
-      omega arith in
+    let pushed : times_held k (p.pending ++ new ∷ []) ≡ times_held k p.pending + cond (eqb (p.dialled + 1) k) 1 0 = times-push (λ (x : Held). eqb x.conn k) p.pending new in
+    omega arith in
     let tickets : (k : ℕ) → times_in q k ≡ times_in p k = λ k.
-      let pushed : times_holding k (p.pending ++ new ∷ []) ≡ times_holding k p.pending + cond (eqb number k) 1 0 = times-push (λ (x : Held). eqb x.ticket k) p.pending new in
-      omega (arith, served_ticket number p.waiting t k h alone) in
+    let pushed : times_holding k (p.pending ++ new ∷ []) ≡ times_holding k p.pending + cond (eqb number k) 1 0 = times-push (λ (x : Held). eqb x.ticket k) p.pending new in
+    omega (arith, served_ticket number p.waiting t k h alone) in
     record {
       once = λ k. rw (conns k) (most_one _ _ _ (s.once k) (λ same. s.dialled k (omega arith)));
       dialled = λ k l. rw (conns k) (none_more _ _ _ (s.dialled k (omega arith)) (λ same. omega arith));
@@ -186,12 +186,12 @@ returned_part p moment errored conn k h e m =
     let taken = times-taken (λ (x : Held). eqb x.conn k) (λ (x : Held). eqb x.conn conn) p.lent h e m in
     let back : Available = record { conn = h.conn; generation = h.generation; since = moment } in
     rw e (elim (is_kept p errored h) as (λ b. times_held k (without_held conn p.lent) + times_available k (p.available ++ cond b (back ∷ []) []) ≤ times_held k p.lent + times_available k p.available) [
-      true ↦
-        let pushed : times_available k (p.available ++ back ∷ []) ≡ times_available k p.available + cond (eqb h.conn k) 1 0 = times-push (λ (x : Available). eqb x.conn k) p.available back in
-        omega arith
-    | false ↦
-        let same : times_available k (p.available ++ []) ≡ times_available k p.available = rw append-nil refl in
-        omega arith
+      | true ↦
+          let pushed : times_available k (p.available ++ back ∷ []) ≡ times_available k p.available + cond (eqb h.conn k) 1 0 = times-push (λ (x : Available). eqb x.conn k) p.available back in
+          omega arith
+      | false ↦
+          let same : times_available k (p.available ++ []) ≡ times_available k p.available = rw append-nil refl in
+          omega arith
     ])
 
 returned_closed : (p : Pool) (moment : ℕ) (errored : Bool) (o : Option Held) → is_closed p.state ≡ true → returned p moment errored o ≡ []

@@ -2,7 +2,7 @@
 use Rattle.std.proofs.Common.{◌≡◌, ℕ, ◌+◌, ◌<◌, ◌≤◌, Bool, true, false, not, ◌&&◌, ◌||◌, cond, eqb, ltb, List, [], ◌∷◌, ◌++◌, map, Option, Some, None, refl, sym, ap, ◌∙◌, subst, arith, inl, inr}
 use Rattle.std.specs.Prelude.{All}
 use Rattle.std.specs.List.{list_any}
-use Rattle.std.proofs.lemmas.Bool.{eqb-true, eq-eqb, ltb-false, cases_lt}
+use Rattle.std.proofs.lemmas.Bool.{eqb-true, eq-eqb, ltb-false, cases_lt, cases_Bool}
 use Rattle.std.proofs.lemmas.Bool.Decides.{eqb_tells}
 use Rattle.std.proofs.lemmas.List.Elements.{All-push, All-filter, All-weaker}
 use Rattle.wait_line.specs.Line.{is_among}
@@ -111,9 +111,9 @@ Unpaid-owes_shut number p errored (Some h) =
 Spent-dials : (p : Pool) (number k conn : ℕ) (h : Held) → Spent number p → held_of conn p.pending ≡ Some h → k ≡ h.ticket → eqb k number ≡ false
 Spent-dials p number k conn h s e n =
     eqb-differs k number (λ same.
-      let mine : h.ticket ≡ number = sym n ∙ same in
-      let dials = times-found_by (λ (x : Held). eqb x.conn conn) (λ (x : Held). eqb x.ticket number) p.pending h e (eq-eqb _ _ mine) in
-      omega (arith, s.idle))
+    let mine : h.ticket ≡ number = sym n ∙ same in
+    let dials = times-found_by (λ (x : Held). eqb x.conn conn) (λ (x : Held). eqb x.ticket number) p.pending h e (eq-eqb _ _ mine) in
+    omega (arith, s.idle))
 
 Unpaid-owes : (p : Pool) (moment : ℕ) (e : PoolEntry) (number : ℕ) → Spent number p → MayStand p moment e → Unpaid number (owes p e)
 Unpaid-owes p moment Ready number s m = refl
@@ -176,8 +176,8 @@ among-times : (number : ℕ) (ts : List Ticket) → is_among (numbers_of ts) num
 among-times number [] e = absurd (cc)
 among-times number (t ∷ ts) e =
     elim (eqb t.number number) as (λ b. (b || is_among (numbers_of ts) number) ≡ true → 1 ≤ cond b 1 0 + times_waiting number ts) [
-      true ↦ λ _. omega arith
-    | false ↦ λ k. let rest = among-times number ts k in omega arith
+      | true ↦ λ _. omega arith
+      | false ↦ λ k. let rest = among-times number ts k in omega arith
     ] e
 
 -- who waits as the pool is cleared is spent
@@ -205,7 +205,7 @@ spent_from p [] es moment number between last s h w a v l =
     unserved_next j.pool j.owed last.at last.what number stays.spent stays.unpaid rest.0 v
 spent_from p (d ∷ ds) es moment number between last s h w a v l = subst (λ e. Pays p (e ∷ ds)) (sym l.0) h
 
-pub never_served : (rules : PoolRules) (before : List Timed) (moment : ℕ) (between : List Timed) (last : Timed) (number : ℕ) →
+never_served : (rules : PoolRules) (before : List Timed) (moment : ℕ) (between : List Timed) (last : Timed) (number : ℕ) →
     IsTrail rules (before ++ record { at = moment; what = Clear } ∷ (between ++ last ∷ [])) →
     is_among (told waits [] (entries_of before)) number ≡ true → serves number last.what ≡ true → ⊥
 never_served rules before moment between last number l a v =
@@ -217,3 +217,9 @@ never_served rules before moment between last number l a v =
     spent_from j.pool j.owed (entries_of before) moment number between last (Sound-trail rules before front)
     (Pays-legal (fresh_pool rules) [] before (Sound-fresh rules) tt front)
     (told-legal (λ p. numbers_of p.waiting) waits Tells-waits (fresh_pool rules) [] before [] (Sound-fresh rules) refl front) a v rest
+
+pub serves-never : (rules : PoolRules) (before : List Timed) (moment : ℕ) (between : List Timed) (last : Timed) (number : ℕ) →
+    IsTrail rules (before ++ record { at = moment; what = Clear } ∷ (between ++ last ∷ [])) →
+    is_among (told waits [] (entries_of before)) number ≡ true → serves number last.what ≡ false
+serves-never rules before moment between last number l a =
+    elim (cases_Bool (serves number last.what)) [ inl served ↦ absurd (never_served rules before moment between last number l a served) | inr not_served ↦ not_served ]

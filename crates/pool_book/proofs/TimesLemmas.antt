@@ -23,8 +23,8 @@ pub filter-times_none : {X : Type 0} (p : X → Bool) (xs : List X) → times p 
 filter-times_none p [] h = refl
 filter-times_none p (x ∷ xs) h =
     elim (p x) as (λ b. cond b 1 0 + times p xs ≡ 0 → cond (not b) (x ∷ filter (λ x. not (p x)) xs) (filter (λ x. not (p x)) xs) ≡ x ∷ xs) [
-      true ↦ λ k. absurd (omega arith)
-    | false ↦ λ k. let none : times p xs ≡ 0 = omega arith in ap (λ ys. x ∷ ys) (filter-times_none p xs none)
+      | true ↦ λ k. absurd (omega arith)
+      | false ↦ λ k. let none : times p xs ≡ 0 = omega arith in ap (λ ys. x ∷ ys) (filter-times_none p xs none)
     ] h
 
 -- what is found is counted
@@ -32,8 +32,8 @@ pub times-found : {X : Type 0} (p : X → Bool) (xs : List X) (x : X) → find p
 times-found p [] x e = absurd (cc)
 times-found p (y ∷ ys) x e =
     elim (p y) as (λ b. cond b (Some y) (find p ys) ≡ Some x → 1 ≤ cond b 1 0 + times p ys) [
-      true ↦ λ _. omega arith
-    | false ↦ λ k. let here = times-found p ys x k in omega arith
+      | true ↦ λ _. omega arith
+      | false ↦ λ k. let here = times-found p ys x k in omega arith
     ] e
 
 -- what is counted is found
@@ -41,8 +41,8 @@ pub find-times : {X : Type 0} (p : X → Bool) (xs : List X) → 1 ≤ times p x
 find-times p [] h = absurd (omega arith)
 find-times p (y ∷ ys) h =
     elim (p y) as (λ b. 1 ≤ cond b 1 0 + times p ys → (x : _) × (cond b (Some y) (find p ys) ≡ Some x)) [
-      true ↦ λ _. (y, refl)
-    | false ↦ λ k. find-times p ys (omega arith)
+      | true ↦ λ _. (y, refl)
+      | false ↦ λ k. find-times p ys (omega arith)
     ] h
 
 -- where one alone passes, the filter by those that do not takes it out
@@ -51,11 +51,11 @@ pub times-taken : {X : Type 0} (q p : X → Bool) (xs : List X) (h : X) → find
 times-taken q p [] h e m = absurd (cc)
 times-taken q p (y ∷ ys) h e m =
     elim (p y) as (λ b. cond b (Some y) (find p ys) ≡ Some h → cond b 1 0 + times p ys ≤ 1 → times q (cond (not b) (y ∷ filter (λ x. not (p x)) ys) (filter (λ x. not (p x)) ys)) + cond (q h) 1 0 ≡ cond (q y) 1 0 + times q ys) [
-      true ↦ λ found most.
-        let same : y ≡ h = cc in
-        let none : times p ys ≡ 0 = omega arith in
-        rw (filter-times_none p ys none, same) (omega arith)
-    | false ↦ λ found most. let rest = times-taken q p ys h found (omega arith) in omega arith
+      | true ↦ λ found most.
+          let same : y ≡ h = cc in
+          let none : times p ys ≡ 0 = omega arith in
+          rw (filter-times_none p ys none, same) (omega arith)
+      | false ↦ λ found most. let rest = times-taken q p ys h found (omega arith) in omega arith
     ] e m
 
 times-last_at : {X : Type 0} (q : X → Bool) (n : ℕ) (xs : List X) (x : X) → length xs ≡ suc n → slice_get xs n ≡ Some x →

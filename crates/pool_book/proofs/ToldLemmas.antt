@@ -122,8 +122,8 @@ map-without : {X : Type 0} (key : X → ℕ) (k : ℕ) (xs : List X) → map key
 map-without key k [] = refl
 map-without key k (x ∷ xs) =
     elim (eqb (key x) k) as (λ b. map key (cond (not b) (x ∷ filter (λ y. not (eqb (key y) k)) xs) (filter (λ y. not (eqb (key y) k)) xs)) ≡ cond (not b) (key x ∷ without_number k (map key xs)) (without_number k (map key xs))) [
-      true ↦ map-without key k xs
-    | false ↦ ap (λ zs. key x ∷ zs) (map-without key k xs)
+      | true ↦ map-without key k xs
+      | false ↦ ap (λ zs. key x ∷ zs) (map-without key k xs)
     ]
 
 -- where none has the number, it takes nothing out
@@ -136,8 +136,8 @@ pub times-found_by : {X : Type 0} (p q : X → Bool) (xs : List X) (x : X) → f
 times-found_by p q [] x e t = absurd (cc)
 times-found_by p q (y ∷ ys) x e t =
     elim (p y) as (λ b. cond b (Some y) (find p ys) ≡ Some x → 1 ≤ times q (y ∷ ys)) [
-      true ↦ λ found. let same : y ≡ x = cc in rw (same, t) (omega arith)
-    | false ↦ λ found. let rest = times-found_by p q ys x found t in omega arith
+      | true ↦ λ found. let same : y ≡ x = cc in rw (same, t) (omega arith)
+      | false ↦ λ found. let rest = times-found_by p q ys x found t in omega arith
     ] e
 
 -- a ticket that dials does not wait
@@ -186,8 +186,8 @@ without-twice : (k : ℕ) (ns : List ℕ) → without_number k (without_number k
 without-twice k [] = refl
 without-twice k (n ∷ ns) =
     elim (eqb n k) as (λ b. eqb n k ≡ b → without_number k (cond (not b) (n ∷ without_number k ns) (without_number k ns)) ≡ cond (not b) (n ∷ without_number k ns) (without_number k ns)) [
-      true ↦ λ _. without-twice k ns
-    | false ↦ λ e. rw e (ap (λ ms. n ∷ ms) (without-twice k ns))
+      | true ↦ λ _. without-twice k ns
+      | false ↦ λ e. rw e (ap (λ ms. n ∷ ms) (without-twice k ns))
     ] refl
 
 -- what must be shut as the pool is closed is not among others
@@ -230,7 +230,7 @@ Tells-pends = record { each = each } where
   each p moment (NotLent number Late) s m = refl
   each p moment (NotLent number (Lost conn)) s m = sym (map-without (λ (h : Held). h.conn) conn p.pending)
   each p moment (CheckedIn number conn errored) s m =
-    told-owes_shut_of pends (conns_of p.pending) (conns_of p.pending) p errored (held_of conn p.lent) m.0 m.1 (λ _. refl)
+      told-owes_shut_of pends (conns_of p.pending) (conns_of p.pending) p errored (held_of conn p.lent) m.0 m.1 (λ _. refl)
       (λ _. without-absent (λ (h : Held). h.conn) m.0.conn p.pending (rw (conn-found conn p.lent m.0 m.1) (only_lent p conn m.0 s m.1).0))
   each p moment (ConnShut conn reason) s m = without-absent (λ (h : Held). h.conn) conn p.pending (only_available p conn m.1 m.0 s m.2 m.4)
 
@@ -238,8 +238,8 @@ map-filter : {X Y : Type 0} (f : X → Y) (q : Y → Bool) (xs : List X) → map
 map-filter f q [] = refl
 map-filter f q (x ∷ xs) =
     elim (q (f x)) as (λ b. map f (cond b (x ∷ filter (λ y. q (f y)) xs) (filter (λ y. q (f y)) xs)) ≡ cond b (f x ∷ filter q (map f xs)) (filter q (map f xs))) [
-      true ↦ ap (λ zs. f x ∷ zs) (map-filter f q xs)
-    | false ↦ map-filter f q xs
+      | true ↦ ap (λ zs. f x ∷ zs) (map-filter f q xs)
+      | false ↦ map-filter f q xs
     ]
 
 pub last-conn : (o : Option Available) (a : Available) (conn : ℕ) → o ≡ Some a → option_map (λ (x : Available). x.conn) o ≡ Some conn → a.conn ≡ conn
@@ -279,7 +279,7 @@ Tells-lends = record { each = each } where
   each p moment (NotLent number Late) s m = refl
   each p moment (NotLent number (Lost conn)) s m = refl
   each p moment (CheckedIn number conn errored) s m =
-    told-owes_shut lends _ p errored (held_of conn p.lent) (λ y c r. refl) ∙ sym (map-filter (λ (h : Held). record { ticket = h.ticket; conn = h.conn }) (λ (q : Pair). not (eqb q.conn conn)) p.lent)
+      told-owes_shut lends _ p errored (held_of conn p.lent) (λ y c r. refl) ∙ sym (map-filter (λ (h : Held). record { ticket = h.ticket; conn = h.conn }) (λ (q : Pair). not (eqb q.conn conn)) p.lent)
   each p moment (ConnShut conn reason) s m = refl
 
 -- the last one taken out by its number, where it stands once
@@ -292,8 +292,8 @@ filter-last_at zero (y ∷ z ∷ zs) a conn l e c m = absurd (omega arith)
 filter-last_at (suc n) (y ∷ ys) a conn l e c m =
     let there : 1 ≤ times_available conn ys = times-at (λ (x : Available). eqb x.conn conn) ys n a e (eq-eqb _ _ c) in
     elim (eqb y.conn conn) as (λ b. cond b 1 0 + times_available conn ys ≤ 1 → cond (not b) (y.conn ∷ without_number conn (free_of ys)) (without_number conn (free_of ys)) ≡ y.conn ∷ free_of (take n ys)) [
-      true ↦ λ most. absurd (omega arith)
-    | false ↦ λ most. let rest : times_available conn ys ≤ 1 = omega arith in ap (λ ns. y.conn ∷ ns) (filter-last_at n ys a conn (omega arith) e c rest)
+      | true ↦ λ most. absurd (omega arith)
+      | false ↦ λ most. let rest : times_available conn ys ≤ 1 = omega arith in ap (λ ns. y.conn ∷ ns) (filter-last_at n ys a conn (omega arith) e c rest)
     ] m
 
 filter-last : (xs : List Available) (a : Available) (conn : ℕ) → last_of xs ≡ Some a → a.conn ≡ conn →
@@ -319,8 +319,8 @@ without-pushed : (k : ℕ) (ns : List ℕ) → without_number k (ns ++ k ∷ [])
 without-pushed k [] = rw (eq-eqb k k refl) refl
 without-pushed k (n ∷ ns) =
     elim (eqb n k) as (λ b. cond (not b) (n ∷ without_number k (ns ++ k ∷ [])) (without_number k (ns ++ k ∷ [])) ≡ cond (not b) (n ∷ without_number k ns) (without_number k ns)) [
-      true ↦ without-pushed k ns
-    | false ↦ ap (λ ms. n ∷ ms) (without-pushed k ns)
+      | true ↦ without-pushed k ns
+      | false ↦ ap (λ ms. n ∷ ms) (without-pushed k ns)
     ]
 
 -- a connection that comes back is available where it is kept
@@ -330,8 +330,8 @@ frees-checked_in p moment conn errored h e none =
     let number = conn-found conn p.lent h e in
     let back : Available = record { conn = h.conn; generation = h.generation; since = moment } in
     rw e (elim (is_kept p errored h) as (λ b. told frees (free_of p.available ++ conn ∷ []) (cond b [] (ConnShut h.conn (shut_reason p errored) ∷ [])) ≡ free_of (p.available ++ cond b (back ∷ []) [])) [
-      true ↦ rw (← number) (sym (map-push (λ (a : Available). a.conn) p.available back))
-    | false ↦ rw (number, append-nil) (without-pushed conn (free_of p.available) ∙ without-absent (λ (a : Available). a.conn) conn p.available none)
+      | true ↦ rw (← number) (sym (map-push (λ (a : Available). a.conn) p.available back))
+      | false ↦ rw (number, append-nil) (without-pushed conn (free_of p.available) ∙ without-absent (λ (a : Available). a.conn) conn p.available none)
     ])
 
 pub Tells-frees : Tells (λ p. free_of p.available) frees
@@ -343,8 +343,8 @@ Tells-frees = record { each = each } where
   each p moment (Entered number) s m = refl
   each p moment (Left number) s m = refl
   each p moment (Lent number conn) s m =
-    let last = last_some (last_of p.available) conn m.3 in
-    filter-last p.available last.0 conn last.1 (last-conn _ _ _ last.1 m.3) (omega (arith, s.once conn))
+      let last = last_some (last_of p.available) conn m.3 in
+      filter-last p.available last.0 conn last.1 (last-conn _ _ _ last.1 m.3) (omega (arith, s.once conn))
   each p moment (Dialled number conn) s m = refl
   each p moment (Settled number conn true) s m = without-absent (λ (a : Available). a.conn) conn p.available (only_pending p conn m.0 s m.1)
   each p moment (Settled number conn false) s m = without-absent (λ (a : Available). a.conn) conn p.available (only_pending p conn m.0 s m.1)

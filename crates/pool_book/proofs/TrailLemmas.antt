@@ -1,5 +1,6 @@
 -- Trails one behind another.
-use Rattle.std.proofs.Common.{◌≡◌, ℕ, List, [], ◌∷◌, ◌++◌, refl, sym, ap, ◌∙◌, subst}
+use Rattle.std.proofs.Common.{◌≡◌, ℕ, zero, suc, List, [], ◌∷◌, ◌++◌, take, Some, None, refl, sym, ap, ◌∙◌, subst}
+use Rattle.std.specs.Prelude.{slice_get}
 use Rattle.pool_book.specs.declared.rules.PoolRules.{PoolRules}
 use Rattle.pool_book.specs.Pool.{Pool, fresh_pool}
 use Rattle.pool_book.specs.Entries.{PoolEntry, after, owes, Goes}
@@ -25,6 +26,13 @@ pub state_after-append : {S E : Type 0} (next : S → E → S) (s : S) (xs ys : 
 state_after-append next s [] ys = refl
 state_after-append next s (x ∷ xs) ys = state_after-append next (next s x) xs ys
 
+-- each entry may stand where those ahead of it lead
+pub Legal-at : {S E : Type 0} (May : S → E → Type 0) (next : S → E → S) (s : S) (ts : List E) → Legal May next s ts →
+    (k : ℕ) (e : E) → slice_get ts k ≡ Some e → May (state_after next s (take k ts)) e
+Legal-at May next s [] l k e h = absurd (cc)
+Legal-at May next s (t ∷ ts) l zero e h = let same : t ≡ e = cc in subst (λ x. May s x) same l.0
+Legal-at May next s (t ∷ ts) l (suc k) e h = Legal-at May next (next s t) ts l.1 k e h
+
 -- what must follow may follow
 Legal-owed : (p : Pool) (moment : ℕ) (ds : List PoolEntry) → Legal Stands moved (record { pool = p; owed = ds }) (timed moment ds)
 Legal-owed p moment [] = tt
@@ -42,8 +50,8 @@ LeadsTo-group rules ts p moment e q l g =
     let start = settled (fresh_pool rules) in
     record {
       trail = Legal-append Stands moved start ts (timed moment (group p e)) l.trail
-        (subst (λ j. Legal Stands moved j (timed moment (group p e))) (sym l.place) (g.stands, Legal-owed (after p moment e) moment (owes p e)));
+          (subst (λ j. Legal Stands moved j (timed moment (group p e))) (sym l.place) (g.stands, Legal-owed (after p moment e) moment (owes p e)));
       place = state_after-append moved start ts (timed moment (group p e))
-        ∙ ap (λ j. state_after moved j (timed moment (group p e))) l.place
-        ∙ state_after-owed (after p moment e) moment (owes p e) ∙ ap settled (sym g.moves);
+          ∙ ap (λ j. state_after moved j (timed moment (group p e))) l.place
+          ∙ state_after-owed (after p moment e) moment (owes p e) ∙ ap settled (sym g.moves);
     }

@@ -53,13 +53,17 @@ IsTrail rules ts = Legal Stands moved (settled (fresh_pool rules)) ts
 abbrev pub place_behind : PoolRules → List Timed → Judged
 place_behind rules ts = state_after moved (settled (fresh_pool rules)) ts
 
--- Entries of one moment.
-abbrev pub timed : ℕ → List PoolEntry → List Timed
-timed moment es = map (λ e. record { at = moment; what = e }) es
-
 -- The entries of a trail.
 abbrev pub entries_of : List Timed → List PoolEntry
 entries_of ts = map (λ t. t.what) ts
+
+-- The entries of a trail, and those that must follow it.
+abbrev pub said : PoolRules → List Timed → List PoolEntry
+said rules ts = entries_of ts ++ (place_behind rules ts).owed
+
+-- Entries of one moment.
+abbrev pub timed : ℕ → List PoolEntry → List Timed
+timed moment es = map (λ e. record { at = moment; what = e }) es
 
 -- An entry that is not owed, and what must follow it at once.
 abbrev pub group : Pool → PoolEntry → List PoolEntry

@@ -20,6 +20,7 @@ mod answers;
 mod book;
 mod connections;
 mod held_list;
+pub mod laws;
 mod rules;
 mod state;
 #[cfg(test)]

@@ -1,4 +1,4 @@
-ghost use Rattle.std.specs.Prelude.{◌≡◌, ◌+◌, ◌-◌, ◌^◌, ◌<◌, ◌≤◌, [], ◌∷◌, ◌++◌, length, IfOk, OnOk, OnErr, IsSome};
+ghost use Rattle.std.specs.Prelude.{◌≡◌, ◌+◌, ◌-◌, ◌^◌, ◌<◌, ◌≤◌, [], ◌∷◌, ◌++◌, length, IfOk, OnOk, OnErr, IsSome, IsTrue};
 ghost use Rattle.wait_line.specs.Line.{is_first};
 ghost use Rattle.pool_book.specs.Pool.{ticket_of, without_ticket, numbers_of};
 ghost use Rattle.pool_book.specs.Parts.{Tickets};
@@ -76,7 +76,8 @@ impl TicketLine {
     }
 
     pub(crate) fn is_front(&self, number: u64) -> bool
-        ensures { result ≡ is_first (numbers_of self.now.items) number }
+        ensures front { result ≡ is_first (numbers_of self.now.items) number }
+        ensures there { IsTrue result → 0 < length self.now.items }
     {
         self.line.is_front(number)
     }

@@ -23,7 +23,7 @@ use Rattle.pool_book.specs.Told.{told, clears, lends, Pair, pairs_of, bears, Bor
 use Rattle.pool_book.specs.Laws.{born_of, no_dials, IsFree}
 use Rattle.pool_book.proofs.ListLemmas.{find-passes}
 use Rattle.pool_book.proofs.TimesLemmas.{times-push, times-found}
-use Rattle.pool_book.proofs.SoundLemmas.{Sound-after, Sound-trail, Sound-fresh, last_some}
+use Rattle.pool_book.proofs.SoundLemmas.{Sound-after, Sound-trail, Sound-fresh, last_of-Some}
 use Rattle.pool_book.proofs.ToldLemmas.{Tells-clears, Tells-lends, told-legal, told-shuts, told-owes_shut, times-at, last-conn}
 use Rattle.pool_book.proofs.TrailLemmas.{Legal-front, Legal-rest}
 
@@ -272,7 +272,7 @@ BornIn-after p moment Shut d b m = record { generation = b.generation; pending =
 BornIn-after p moment (Entered number) d b m = BornIn-same p _ d b refl refl refl refl refl
 BornIn-after p moment (Left number) d b m = BornIn-same p _ d b refl refl refl refl refl
 BornIn-after p moment (Lent number conn) d b m =
-    let last = last_some (last_of p.available) conn m.3 in BornIn-lent p moment number conn d last.0 b last.1
+    let last = last_of-Some (last_of p.available) conn m.3 in BornIn-lent p moment number conn d last.0 b last.1
 BornIn-after p moment (Dialled number conn) d b m = rw m.5 (BornIn-dialled p moment number d b)
 BornIn-after p moment (Settled number conn true) d b m = BornIn-gone p conn d b
 BornIn-after p moment (Settled number conn false) d b m = BornIn-settled p moment number conn d m.0 b m.1
@@ -355,7 +355,7 @@ free_at : (p : Pool) (owed es : List PoolEntry) (moment number conn : ℕ) → S
     BornIn p (told bears (told bears no_dials es) owed) →
     ComesNext owed (Lent number conn) (MayStand p moment (Lent number conn)) → IsFree es conn
 free_at p [] es moment number conn s h l g b m =
-    let last = last_some (last_of p.available) conn m.3 in
+    let last = last_of-Some (last_of p.available) conn m.3 in
     let same = last-conn _ _ _ last.1 m.3 in
     let k = length p.available - 1 in
     let there = times-at (λ (a : Available). eqb a.conn conn) p.available k last.0 last.1 (eq-eqb _ _ same) in

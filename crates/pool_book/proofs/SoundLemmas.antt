@@ -27,45 +27,45 @@ is_closed-cleared state_of.Ready e = e
 is_closed-cleared state_of.Closed e = e
 
 -- a ticket that is served leaves the line
-served_ticket : (number : ℕ) (ts : List Ticket) (t : Ticket) (k : ℕ) → ticket_of number ts ≡ Some t → times_waiting number ts ≤ 1 →
+times_waiting-without_ticket : (number : ℕ) (ts : List Ticket) (t : Ticket) (k : ℕ) → ticket_of number ts ≡ Some t → times_waiting number ts ≤ 1 →
     times_waiting k (without_ticket number ts) + cond (eqb number k) 1 0 ≡ times_waiting k ts
-served_ticket number ts t k e m =
+times_waiting-without_ticket number ts t k e m =
     let taken = times-taken (λ (x : Ticket). eqb x.number k) (λ (x : Ticket). eqb x.number number) ts t e m in
     let same : t.number ≡ number = eqb-true _ _ (find-passes (λ (x : Ticket). eqb x.number number) ts t e) in
     subst (λ n. times_waiting k (without_ticket number ts) + cond (eqb n k) 1 0 ≡ times_waiting k ts) same taken
 
 -- a connection that is lent leaves the available ones
-lent_part : (number : ℕ) (xs : List Available) (hs : List Held) (a : Available) (k : ℕ) → last_of xs ≡ Some a →
+times_held-lend : (number : ℕ) (xs : List Available) (hs : List Held) (a : Available) (k : ℕ) → last_of xs ≡ Some a →
     times_held k (hs ++ lend number (last_of xs)) + times_available k (take (length xs - 1) xs) ≡ times_held k hs + times_available k xs
-lent_part number xs hs a k e =
+times_held-lend number xs hs a k e =
     rw e (omega (arith, times-push (λ (h : Held). eqb h.conn k) hs (record { conn = a.conn; ticket = number; generation = a.generation }), times-last (λ (x : Available). eqb x.conn k) xs a e))
 
-lent_ticket : (number : ℕ) (xs : List Available) (hs : List Held) (a : Available) (k : ℕ) → last_of xs ≡ Some a →
+times_holding-lend : (number : ℕ) (xs : List Available) (hs : List Held) (a : Available) (k : ℕ) → last_of xs ≡ Some a →
     times_holding k (hs ++ lend number (last_of xs)) ≡ times_holding k hs + cond (eqb number k) 1 0
-lent_ticket number xs hs a k e =
+times_holding-lend number xs hs a k e =
     rw e (times-push (λ (h : Held). eqb h.ticket k) hs (record { conn = a.conn; ticket = number; generation = a.generation }))
 
 -- there is a last one of which the number is given
-pub last_some : (o : Option Available) (conn : ℕ) → option_map (λ (a : Available). a.conn) o ≡ Some conn → (a : Available) × (o ≡ Some a)
-last_some None conn e = absurd (cc)
-last_some (Some a) conn e = (a, refl)
+pub last_of-Some : (o : Option Available) (conn : ℕ) → option_map (λ (a : Available). a.conn) o ≡ Some conn → (a : Available) × (o ≡ Some a)
+last_of-Some None conn e = absurd (cc)
+last_of-Some (Some a) conn e = (a, refl)
 
 -- a connection that settles goes from the pending ones to the lent ones
-settled_part : (q : Held → Bool) (conn : ℕ) (ps hs : List Held) (h : Held) → held_of conn ps ≡ Some h → times_held conn ps ≤ 1 →
+times-settled : (q : Held → Bool) (conn : ℕ) (ps hs : List Held) (h : Held) → held_of conn ps ≡ Some h → times_held conn ps ≤ 1 →
     times q (without_held conn ps) + times q (hs ++ option_to_list (held_of conn ps)) ≡ times q ps + times q hs
-settled_part q conn ps hs h e m =
+times-settled q conn ps hs h e m =
     rw e (omega (arith, times-taken q (λ (x : Held). eqb x.conn conn) ps h e m, times-push q hs h))
 
 -- one more of a number
-most_one : (n a k : ℕ) → n ≤ 1 → (a ≡ k → n ≡ 0) → n + cond (eqb a k) 1 0 ≤ 1
-most_one n a k most none =
+add-cond_most_one : (n a k : ℕ) → n ≤ 1 → (a ≡ k → n ≡ 0) → n + cond (eqb a k) 1 0 ≤ 1
+add-cond_most_one n a k most none =
     elim (eqb_tells a k) [
       | inl same ↦ let zero_of = none same.1 in rw same.0 (omega arith)
       | inr other ↦ rw other.0 (omega arith)
     ]
 
-none_more : (n a k : ℕ) → n ≡ 0 → (a ≡ k → ⊥) → n + cond (eqb a k) 1 0 ≡ 0
-none_more n a k none other =
+add-cond_none : (n a k : ℕ) → n ≡ 0 → (a ≡ k → ⊥) → n + cond (eqb a k) 1 0 ≡ 0
+add-cond_none n a k none other =
     elim (eqb_tells a k) [
       | inl same ↦ absurd (other same.1)
       | inr differ ↦ rw differ.0 (omega arith)
@@ -79,8 +79,8 @@ Sound-entered p moment s =
     record {
       once = s.once;
       dialled = s.dialled;
-      one_place = λ k. rw (more k) (most_one _ _ _ (s.one_place k) (λ same. s.entered k (omega arith)));
-      entered = λ k l. rw (more k) (none_more _ _ _ (s.entered k (omega arith)) (λ same. omega arith));
+      one_place = λ k. rw (more k) (add-cond_most_one _ _ _ (s.one_place k) (λ same. s.entered k (omega arith)));
+      entered = λ k l. rw (more k) (add-cond_none _ _ _ (s.entered k (omega arith)) (λ same. omega arith));
       shut = s.shut;
       current = All-push (λ (t : Ticket). t.generation ≤ p.generation) p.waiting (ticket_for p moment) s.current (omega arith);
     }
@@ -130,8 +130,8 @@ Sound-lent : (p : Pool) (moment number conn : ℕ) (t : Ticket) (a : Available) 
 Sound-lent p moment number conn t a s h last open' =
     let q = after p moment (Lent number conn) in
     let alone : times_waiting number p.waiting ≤ 1 = omega (arith, s.one_place number) in
-    let conns : (k : ℕ) → times_of q k ≡ times_of p k = λ k. omega (arith, lent_part number p.available p.lent a k last) in
-    let tickets : (k : ℕ) → times_in q k ≡ times_in p k = λ k. omega (arith, served_ticket number p.waiting t k h alone, lent_ticket number p.available p.lent a k last) in
+    let conns : (k : ℕ) → times_of q k ≡ times_of p k = λ k. omega (arith, times_held-lend number p.available p.lent a k last) in
+    let tickets : (k : ℕ) → times_in q k ≡ times_in p k = λ k. omega (arith, times_waiting-without_ticket number p.waiting t k h alone, times_holding-lend number p.available p.lent a k last) in
     record {
       once = λ k. rw (conns k) (s.once k);
       dialled = λ k l. rw (conns k) (s.dialled k l);
@@ -152,10 +152,10 @@ Sound-dialled p moment number t s h =
     omega arith in
     let tickets : (k : ℕ) → times_in q k ≡ times_in p k = λ k.
     let pushed : times_holding k (p.pending ++ new ∷ []) ≡ times_holding k p.pending + cond (eqb number k) 1 0 = times-push (λ (x : Held). eqb x.ticket k) p.pending new in
-    omega (arith, served_ticket number p.waiting t k h alone) in
+    omega (arith, times_waiting-without_ticket number p.waiting t k h alone) in
     record {
-      once = λ k. rw (conns k) (most_one _ _ _ (s.once k) (λ same. s.dialled k (omega arith)));
-      dialled = λ k l. rw (conns k) (none_more _ _ _ (s.dialled k (omega arith)) (λ same. omega arith));
+      once = λ k. rw (conns k) (add-cond_most_one _ _ _ (s.once k) (λ same. s.dialled k (omega arith)));
+      dialled = λ k l. rw (conns k) (add-cond_none _ _ _ (s.dialled k (omega arith)) (λ same. omega arith));
       one_place = λ k. rw (tickets k) (s.one_place k);
       entered = λ k l. rw (tickets k) (s.entered k l);
       shut = s.shut;
@@ -167,8 +167,8 @@ Sound-settled : (p : Pool) (moment number conn : ℕ) (h : Held) → Sound p →
 Sound-settled p moment number conn h s e =
     let q = after p moment (Settled number conn false) in
     let alone : times_held conn p.pending ≤ 1 = omega (arith, s.once conn) in
-    let conns : (k : ℕ) → times_of q k ≡ times_of p k = λ k. omega (arith, settled_part (λ (x : Held). eqb x.conn k) conn p.pending p.lent h e alone) in
-    let tickets : (k : ℕ) → times_in q k ≡ times_in p k = λ k. omega (arith, settled_part (λ (x : Held). eqb x.ticket k) conn p.pending p.lent h e alone) in
+    let conns : (k : ℕ) → times_of q k ≡ times_of p k = λ k. omega (arith, times-settled (λ (x : Held). eqb x.conn k) conn p.pending p.lent h e alone) in
+    let tickets : (k : ℕ) → times_in q k ≡ times_in p k = λ k. omega (arith, times-settled (λ (x : Held). eqb x.ticket k) conn p.pending p.lent h e alone) in
     record {
       once = λ k. rw (conns k) (s.once k);
       dialled = λ k l. rw (conns k) (s.dialled k l);
@@ -179,10 +179,10 @@ Sound-settled p moment number conn h s e =
     }
 
 -- a connection that is checked in goes from the lent ones to the available ones, where it is kept
-returned_part : (p : Pool) (moment : ℕ) (errored : Bool) (conn k : ℕ) (h : Held) → held_of conn p.lent ≡ Some h → times_held conn p.lent ≤ 1 →
+times-returned_most : (p : Pool) (moment : ℕ) (errored : Bool) (conn k : ℕ) (h : Held) → held_of conn p.lent ≡ Some h → times_held conn p.lent ≤ 1 →
     times_held k (without_held conn p.lent) + times_available k (p.available ++ returned p moment errored (held_of conn p.lent))
     ≤ times_held k p.lent + times_available k p.available
-returned_part p moment errored conn k h e m =
+times-returned_most p moment errored conn k h e m =
     let taken = times-taken (λ (x : Held). eqb x.conn k) (λ (x : Held). eqb x.conn conn) p.lent h e m in
     let back : Available = record { conn = h.conn; generation = h.generation; since = moment } in
     rw e (elim (is_kept p errored h) as (λ b. times_held k (without_held conn p.lent) + times_available k (p.available ++ cond b (back ∷ []) []) ≤ times_held k p.lent + times_available k p.available) [
@@ -194,23 +194,23 @@ returned_part p moment errored conn k h e m =
           omega arith
     ])
 
-returned_closed : (p : Pool) (moment : ℕ) (errored : Bool) (o : Option Held) → is_closed p.state ≡ true → returned p moment errored o ≡ []
-returned_closed p moment errored None c = refl
-returned_closed p moment true (Some h) c = refl
-returned_closed p moment false (Some h) c = rw c refl
+returned-closed : (p : Pool) (moment : ℕ) (errored : Bool) (o : Option Held) → is_closed p.state ≡ true → returned p moment errored o ≡ []
+returned-closed p moment errored None c = refl
+returned-closed p moment true (Some h) c = refl
+returned-closed p moment false (Some h) c = rw c refl
 
 Sound-checked_in : (p : Pool) (moment number conn : ℕ) (errored : Bool) (h : Held) → Sound p → held_of conn p.lent ≡ Some h →
     Sound (after p moment (CheckedIn number conn errored))
 Sound-checked_in p moment number conn errored h s e =
     let alone : times_held conn p.lent ≤ 1 = omega (arith, s.once conn) in
-    let conns : (k : ℕ) → times_of (after p moment (CheckedIn number conn errored)) k ≤ times_of p k = λ k. omega (arith, returned_part p moment errored conn k h e alone) in
+    let conns : (k : ℕ) → times_of (after p moment (CheckedIn number conn errored)) k ≤ times_of p k = λ k. omega (arith, times-returned_most p moment errored conn k h e alone) in
     let tickets : (k : ℕ) → times_holding k (without_held conn p.lent) ≤ times_holding k p.lent = λ k. times-filter_most _ _ p.lent in
     record {
       once = λ k. omega (arith, conns k, s.once k);
       dialled = λ k l. omega (arith, conns k, s.dialled k l);
       one_place = λ k. omega (arith, tickets k, s.one_place k);
       entered = λ k l. omega (arith, tickets k, s.entered k l);
-      shut = λ c. rw (returned_closed p moment errored (held_of conn p.lent) c, s.shut c) refl;
+      shut = λ c. rw (returned-closed p moment errored (held_of conn p.lent) c, s.shut c) refl;
       current = s.current;
     }
 
@@ -258,7 +258,7 @@ Sound-after p moment Shut s m = Sound-shut p moment s
 Sound-after p moment (Entered number) s m = Sound-entered p moment s
 Sound-after p moment (Left number) s m = Sound-left p number s
 Sound-after p moment (Lent number conn) s m =
-    let last = last_some (last_of p.available) conn m.3 in
+    let last = last_of-Some (last_of p.available) conn m.3 in
     Sound-lent p moment number conn m.0 last.0 s m.1 last.1 (is_served-open p.state _ _ _ m.2)
 Sound-after p moment (Dialled number conn) s m = rw m.5 (Sound-dialled p moment number m.0 s m.1)
 Sound-after p moment (Settled number conn true) s m = Sound-gone p conn s

@@ -21,7 +21,7 @@ use Rattle.pool_book.specs.Sound.{Sound, times, times_held, times_available, tim
 use Rattle.pool_book.specs.Told.{told, clears, opens, waits, pends, frees, lends, Pair, conns_of, pairs_of, free_of}
 use Rattle.pool_book.proofs.ListLemmas.{find-passes, numbers_of-without_ticket}
 use Rattle.pool_book.proofs.TimesLemmas.{times-found, filter-times_none}
-use Rattle.pool_book.proofs.SoundLemmas.{Sound-after, Sound-fresh, last_some}
+use Rattle.pool_book.proofs.SoundLemmas.{Sound-after, Sound-fresh, last_of-Some}
 
 -- g tells of each entry, with what must follow it, what f shows of the pool behind it
 pub record Tells {X : Type 0} (f : Pool → X) (g : X → PoolEntry → X) : Type 0 where
@@ -84,21 +84,21 @@ Tells-clears = record { each = each } where
   each p moment (ConnShut conn reason) s m = refl
 
 -- the state
-opens-ready : (s : PoolState) → is_paused s ≡ true → cond (is_closed s) state_of.Closed state_of.Ready ≡ state_of.Ready
-opens-ready state_of.Paused e = refl
-opens-ready state_of.Ready e = refl
-opens-ready state_of.Closed e = absurd (cc)
+opens-Ready : (s : PoolState) → is_paused s ≡ true → cond (is_closed s) state_of.Closed state_of.Ready ≡ state_of.Ready
+opens-Ready state_of.Paused e = refl
+opens-Ready state_of.Ready e = refl
+opens-Ready state_of.Closed e = absurd (cc)
 
-opens-clear : (s : PoolState) → cond (is_closed s) state_of.Closed state_of.Paused ≡ cleared_state s
-opens-clear state_of.Paused = refl
-opens-clear state_of.Ready = refl
-opens-clear state_of.Closed = refl
+opens-Clear : (s : PoolState) → cond (is_closed s) state_of.Closed state_of.Paused ≡ cleared_state s
+opens-Clear state_of.Paused = refl
+opens-Clear state_of.Ready = refl
+opens-Clear state_of.Closed = refl
 
 pub Tells-opens : Tells (λ p. p.state) opens
 Tells-opens = record { each = each } where
   each : (p : Pool) (moment : ℕ) (e : PoolEntry) → Sound p → MayStand p moment e → told opens (opens p.state e) (owes p e) ≡ (after p moment e).state
-  each p moment Ready s m = opens-ready p.state m
-  each p moment Clear s m = opens-clear p.state
+  each p moment Ready s m = opens-Ready p.state m
+  each p moment Clear s m = opens-Clear p.state
   each p moment Shut s m = told-shuts opens state_of.Closed p.available (λ y c r. refl)
   each p moment (Entered number) s m = refl
   each p moment (Left number) s m = refl
@@ -254,7 +254,7 @@ pairs-lent_of number conn o a hs e n =
 pairs-lent : (number conn : ℕ) (xs : List Available) (hs : List Held) → option_map (λ (x : Available). x.conn) (last_of xs) ≡ Some conn →
     pairs_of hs ++ record { ticket = number; conn = conn } ∷ [] ≡ pairs_of (hs ++ lend number (last_of xs))
 pairs-lent number conn xs hs e =
-    let last = last_some (last_of xs) conn e in
+    let last = last_of-Some (last_of xs) conn e in
     pairs-lent_of number conn (last_of xs) last.0 hs last.1 (last-conn _ _ _ last.1 e)
 
 pairs-settled : (number conn : ℕ) (ps hs : List Held) (h : Held) → held_of conn ps ≡ Some h → number ≡ h.ticket →
@@ -343,7 +343,7 @@ Tells-frees = record { each = each } where
   each p moment (Entered number) s m = refl
   each p moment (Left number) s m = refl
   each p moment (Lent number conn) s m =
-      let last = last_some (last_of p.available) conn m.3 in
+      let last = last_of-Some (last_of p.available) conn m.3 in
       filter-last p.available last.0 conn last.1 (last-conn _ _ _ last.1 m.3) (omega (arith, s.once conn))
   each p moment (Dialled number conn) s m = refl
   each p moment (Settled number conn true) s m = without-absent (λ (a : Available). a.conn) conn p.available (only_pending p conn m.0 s m.1)

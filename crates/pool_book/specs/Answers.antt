@@ -30,7 +30,7 @@ answer_due p moment t =
     unwrap_or (if is_first (numbers_of p.waiting) t.number then taken_from p (last_of p.available) else None)
     (if is_late p moment t then take_of.Late else take_of.Wait))
 
--- None of the other answers is due to a ticket.
+-- None of the other answers is due to a ticket (CMAP, Checking Out a Connection).
 abbrev pub MustWait : Pool → ℕ → ℕ → Type 0
 MustWait p moment number =
     (t : Ticket) × (ticket_of number p.waiting ≡ Some t) × (is_closed p.state ≡ false) × (is_cleared p t ≡ false)

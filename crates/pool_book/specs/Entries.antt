@@ -33,7 +33,7 @@ pub data PoolEntry : Type 0 where
   CheckedIn : (number conn : ℕ) (errored : Bool) → PoolEntry  -- a ticket's owner gives it back
   ConnShut : (conn : ℕ) (reason : CloseReason) → PoolEntry  -- a connection is shut
 
--- A ticket that enters a pool.
+-- The ticket that enters a pool next: its number, the pool's generation and the moment (CMAP, WaitQueue).
 abbrev pub ticket_for : Pool → ℕ → Ticket
 ticket_for p moment = record { number = p.entered; generation = p.generation; entered = moment }
 
@@ -43,12 +43,13 @@ cleared_state state_of.Paused = state_of.Paused
 cleared_state state_of.Ready = state_of.Paused
 cleared_state state_of.Closed = state_of.Closed
 
--- An available connection, as a ticket's.
+-- The connection that a ticket is lent of the available ones, with the generation of its dial (CMAP, Checking Out a
+-- Connection).
 abbrev pub lend : ℕ → Option Available → List Held
 lend number None = []
 lend number (Some a) = record { conn = a.conn; ticket = number; generation = a.generation } ∷ []
 
--- A connection that is checked in, as an available one, where it is kept.
+-- The connection that is available again by a check-in, where it is kept (CMAP, Checking In a Connection).
 abbrev pub returned : Pool → ℕ → Bool → Option Held → List Available
 returned p moment errored None = []
 returned p moment errored (Some h) =
@@ -89,7 +90,7 @@ after p moment (ConnShut conn reason) = record p { available = without_available
 abbrev pub refusal : Pool → WhyNot
 refusal p = if is_closed p.state then Closed else Cleared p.generation
 
--- What must follow the check-in of a connection.
+-- What must follow a check-in: the connection is shut where it is not kept (CMAP, Checking In a Connection).
 abbrev pub owes_shut : Pool → Bool → Option Held → List PoolEntry
 owes_shut p errored None = []
 owes_shut p errored (Some h) =
@@ -141,7 +142,7 @@ MayStand p moment (ConnShut conn reason) =
     (a : Available) × (k : ℕ) × (slice_get p.available k ≡ Some a) × (is_perished p moment a ≡ true)
     × (conn ≡ a.conn) × (reason ≡ perish_reason p a)
 
--- The pool goes on by an entry that may stand, and by what must follow it, to another pool.
+-- The pool goes on by an entry that may stand, and by what must follow it, to another pool (own: what a call does).
 pub record Goes (p : Pool) (moment : ℕ) (e : PoolEntry) (q : Pool) : Type 0 where
   pub stands : MayStand p moment e
   pub moves : q ≡ after p moment e

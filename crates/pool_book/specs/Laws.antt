@@ -11,7 +11,7 @@ serves number (Lent n conn) = n == number
 serves number (Dialled n conn) = n == number
 serves number e = false
 
--- Nothing was dialled.
+-- Nothing was dialled, and nothing cleared (CMAP, Connection Pool, generation 0).
 abbrev pub no_dials : Dials
 no_dials = record { now = 0; born = [] }
 
@@ -19,7 +19,8 @@ no_dials = record { now = 0; born = [] }
 abbrev pub born_of : ℕ → List Born → Option ℕ
 born_of conn bs = option_map (λ b. b.generation) (find (λ b. b.conn == conn) bs)
 
--- By the entries so far nobody has the connection, and it was dialled in the generation that the pool has.
+-- By the entries so far nobody has the connection, and it was dialled in the generation that the pool has (CMAP,
+-- Checking Out a Connection).
 pub record IsFree (es : List PoolEntry) (conn : ℕ) : Type 0 where
   pub no_borrower : list_any (λ q. q.conn == conn) (told lends [] es) ≡ false
   pub current : born_of conn (told bears no_dials es).born ≡ Some (told clears 0 es)

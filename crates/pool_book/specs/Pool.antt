@@ -38,43 +38,45 @@ fresh_pool r = record {
   dialled = 0;
 }
 
--- Whether a state is this one.
+-- A pool gives out no connection yet, or not until it is made ready again (CMAP, Connection Pool, paused).
 abbrev pub is_paused : PoolState → Bool
 is_paused state_of.Paused = true
 is_paused state_of.Ready = false
 is_paused state_of.Closed = false
 
+-- A pool gives out connections (CMAP, Connection Pool, ready).
 abbrev pub is_ready : PoolState → Bool
 is_ready state_of.Paused = false
 is_ready state_of.Ready = true
 is_ready state_of.Closed = false
 
+-- A pool gives out no connection any more (CMAP, Connection Pool, closed).
 abbrev pub is_closed : PoolState → Bool
 is_closed state_of.Paused = false
 is_closed state_of.Ready = false
 is_closed state_of.Closed = true
 
--- The ticket of this number.
+-- The ticket of this number, if it is there (own: a ticket is known by its number).
 abbrev pub ticket_of : ℕ → List Ticket → Option Ticket
 ticket_of number ts = find (λ t. t.number == number) ts
 
--- The tickets without this number.
+-- The tickets without that of this number (own: as above).
 abbrev pub without_ticket : ℕ → List Ticket → List Ticket
 without_ticket number ts = filter (λ t. not (t.number == number)) ts
 
--- The numbers of tickets, in order.
+-- The numbers of tickets, in the same order: the line (CMAP, WaitQueue).
 abbrev pub numbers_of : List Ticket → List ℕ
 numbers_of ts = map (λ t. t.number) ts
 
--- The connection of this number among those that are pending or lent.
+-- The connection of this number among those that are pending, or lent (CMAP, Connection, id).
 abbrev pub held_of : ℕ → List Held → Option Held
 held_of conn hs = find (λ h. h.conn == conn) hs
 
--- Those without this number.
+-- Pending or lent connections without that of this number (CMAP, Connection, id).
 abbrev pub without_held : ℕ → List Held → List Held
 without_held conn hs = filter (λ h. not (h.conn == conn)) hs
 
--- Available connections without this number.
+-- Available connections without that of this number (CMAP, Connection, id).
 abbrev pub without_available : ℕ → List Available → List Available
 without_available conn xs = filter (λ a. not (a.conn == conn)) xs
 
@@ -95,7 +97,7 @@ is_stale p g = not (g == p.generation)
 abbrev pub is_idle : Pool → ℕ → Available → Bool
 is_idle p moment a = not (p.rules.idle_micros == 0) && nat_lt (a.since + p.rules.idle_micros) moment
 
--- It is one or the other (CMAP, a connection is perished).
+-- An available connection is stale or idle (CMAP, a connection is perished).
 abbrev pub is_perished : Pool → ℕ → Available → Bool
 is_perished p moment a = is_stale p a.generation || is_idle p moment a
 
@@ -111,11 +113,12 @@ perish_reason p a = if is_stale p a.generation then Stale else Idle
 abbrev pub shut_reason : Pool → Bool → CloseReason
 shut_reason p errored = if errored then Errored else (if is_closed p.state then PoolClosed else Stale)
 
--- A pending or lent connection is of no more use (CMAP, Establishing a Connection, Checking In a Connection).
+-- A pending or lent connection is of no more use: the pool is closed, or its generation is not the connection's (CMAP, Establishing a Connection, Checking In a Connection).
 abbrev pub is_worthless : Pool → Held → Bool
 is_worthless p h = is_closed p.state || is_stale p h.generation
 
--- A lent connection is available again once it is checked in (CMAP, Checking In a Connection).
+-- A lent connection is available again once it is checked in: it did not fail, the pool is not closed, and the
+-- generation is the pool's (CMAP, Checking In a Connection).
 abbrev pub is_kept : Pool → Bool → Held → Bool
 is_kept p errored h = not errored && not (is_worthless p h)
 
@@ -139,6 +142,7 @@ is_served p moment t =
 abbrev pub has_place : Pool → Bool
 has_place p = nat_lt (total p) p.rules.max_size && nat_lt (length p.pending) p.rules.max_connecting
 
--- A ticket may have a connection or dial one.
+-- A ticket may have a connection or dial one: it is served, and one is available or there is room to dial (CMAP,
+-- Checking Out a Connection).
 abbrev pub can_take : Pool → ℕ → Ticket → Bool
 can_take p moment t = is_served p moment t && (nat_lt 0 (length p.available) || has_place p)

@@ -10,7 +10,7 @@ abbrev pub times : {X : Type 0} → (X → Bool) → List X → ℕ
 times test [] = 0
 times test (x ∷ xs) = (if test x then 1 else 0) + times test xs
 
--- How often a connection stands among the pending, the lent and the available ones.
+-- How often a connection stands among the pending, the lent and the available ones (own).
 abbrev pub times_held : ℕ → List Held → ℕ
 times_held conn hs = times (λ h. h.conn == conn) hs
 
@@ -20,7 +20,7 @@ times_available conn xs = times (λ a. a.conn == conn) xs
 abbrev pub times_of : Pool → ℕ → ℕ
 times_of p conn = times_held conn p.pending + times_held conn p.lent + times_available conn p.available
 
--- How often a ticket waits, dials or has a connection.
+-- How often a ticket waits, dials or has a connection (own).
 abbrev pub times_waiting : ℕ → List Ticket → ℕ
 times_waiting number ts = times (λ t. t.number == number) ts
 
@@ -32,7 +32,7 @@ times_in p number = times_waiting number p.waiting + times_holding number p.pend
 
 -- Each connection stands at most once among pending, lent and available, and none that was not dialled yet; each ticket
 -- waits, dials or has a connection at most once, and none that did not enter yet; nothing is available in a closed pool;
--- and no ticket that waits is of a later generation than the pool.
+-- and no ticket that waits is of a later generation than the pool (own: the invariant of the laws).
 pub record Sound (p : Pool) : Type 0 where
   pub once : (conn : ℕ) → times_of p conn ≤ 1
   pub dialled : (conn : ℕ) → p.dialled < conn → times_of p conn ≡ 0

@@ -8,7 +8,7 @@ use Rattle.pool_book.specs.declared.connections.Available.{Available}
 use Rattle.pool_book.specs.Pool.{is_closed}
 use Rattle.pool_book.specs.Entries.{PoolEntry, Ready, Clear, Shut, Entered, Left, Lent, Dialled, Settled, NotLent, CheckedIn, ConnShut}
 
--- What entries say, one after another.
+-- What entries say, one after another (own: a fold).
 abbrev pub told : {X : Type 0} → (X → PoolEntry → X) → X → List PoolEntry → X
 told says x [] = x
 told says x (e ∷ es) = told says (says x e) es
@@ -49,7 +49,7 @@ frees cs (Lent number conn) = without_number conn cs
 frees cs (ConnShut conn reason) = without_number conn cs
 frees cs e = cs
 
--- A ticket and its connection.
+-- A ticket and the connection that it is lent (CMAP, Checking Out a Connection).
 pub record Pair : Type 0 where
   pub ticket : ℕ
   pub conn : ℕ
@@ -61,7 +61,7 @@ lends ps (Lent number conn) = ps ++ record { ticket = number; conn = conn } ∷ 
 lends ps (CheckedIn number conn errored) = filter (λ q. not (q.conn == conn)) ps
 lends ps e = ps
 
--- The same of the connections that a pool holds.
+-- The same of the connections that a pool holds (own).
 abbrev pub conns_of : List Held → List ℕ
 conns_of hs = map (λ h. h.conn) hs
 
@@ -71,7 +71,7 @@ pairs_of hs = map (λ h. record { ticket = h.ticket; conn = h.conn }) hs
 abbrev pub free_of : List Available → List ℕ
 free_of xs = map (λ a. a.conn) xs
 
--- A connection and its generation.
+-- A connection and the generation of its dial (CMAP, Connection, generation).
 pub record Born : Type 0 where
   pub conn : ℕ
   pub generation : ℕ

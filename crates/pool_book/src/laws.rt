@@ -2,10 +2,10 @@
 //!
 //! A trail is a list of entries of which each may stand where those ahead of it lead. The laws say what its entries mean
 //! in the standard's own words, that a pool's calls make a trail, and what no trail shows.
-ghost use Rattle.std.specs.Prelude.{◌≡◌, ℕ, ◌≤◌, true, false, Some, List, [], ◌∷◌, ◌++◌, slice_get, take};
+ghost use Rattle.std.specs.Prelude.{◌≡◌, ℕ, ◌≤◌, true, false, Some, List, [], ◌∷◌, ◌++◌, All, slice_get, take};
 ghost use Rattle.wait_line.specs.Line.{is_among};
 ghost use Rattle.pool_book.specs.declared.rules.PoolRules.{PoolRules};
-ghost use Rattle.pool_book.specs.Pool.{Pool, fresh_pool, numbers_of};
+ghost use Rattle.pool_book.specs.Pool.{Pool, fresh_pool, is_closed, numbers_of};
 ghost use Rattle.pool_book.specs.Entries as entry;
 ghost use Rattle.pool_book.specs.Entries.{PoolEntry, Goes};
 ghost use Rattle.pool_book.specs.Judge.{Timed, Stands, IsTrail, place_behind, entries_of, said, timed, group, LeadsTo};
@@ -54,10 +54,18 @@ pub fn each_connection_stands_once()
         → (conn : ℕ) → times_of (place_behind rules ts).pool conn ≤ 1 }
 {}
 
-/// A ticket waits, dials or has a connection at most once.
+/// A ticket waits, dials or has a connection at most once, and where it waits it is of no later generation than the pool.
 pub fn each_ticket_has_one_place()
-    ensures { (rules : PoolRules) (ts : List Timed) → IsTrail rules ts
+    ensures once { (rules : PoolRules) (ts : List Timed) → IsTrail rules ts
         → (number : ℕ) → times_in (place_behind rules ts).pool number ≤ 1 }
+    ensures current { (rules : PoolRules) (ts : List Timed) → IsTrail rules ts
+        → All (λ t. t.generation ≤ (place_behind rules ts).pool.generation) (place_behind rules ts).pool.waiting }
+{}
+
+/// Nothing is available in a closed pool.
+pub fn a_closed_pool_has_nothing_available()
+    ensures { (rules : PoolRules) (ts : List Timed) → IsTrail rules ts
+        → is_closed (place_behind rules ts).pool.state ≡ true → (place_behind rules ts).pool.available ≡ [] }
 {}
 
 /// Where a connection is lent, nobody had it until then, and it was dialled in the generation that the pool has there.

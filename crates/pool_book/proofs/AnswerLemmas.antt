@@ -1,8 +1,7 @@
 -- What is due to a ticket is an entry that may stand.
-use Rattle.std.proofs.Common.{◌≡◌, ℕ, ◌+◌, ◌-◌, ◌<◌, ◌≤◌, Bool, true, false, not, ◌&&◌, ◌||◌, cond, eqb, ltb, leb, List, [], ◌∷◌, length, Option, Some, None, refl, sym, ap, ◌∙◌, subst, arith}
-use Rattle.std.specs.Prelude.{unwrap_or, slice_get, is_some}
+use Rattle.std.proofs.Common.{◌≡◌, ℕ, ◌+◌, ◌-◌, Bool, true, false, not, ◌&&◌, ◌||◌, cond, ltb, List, [], ◌∷◌, length, Option, Some, None, refl, ap, subst, arith}
+use Rattle.std.specs.Prelude.{unwrap_or}
 use Rattle.std.specs.Option.{option_map}
-use Rattle.std.specs.List.{list_any}
 use Rattle.std.proofs.lemmas.Option.{slice_get-get_or}
 use Rattle.wait_line.specs.Line.{is_first}
 use Rattle.pool_book.specs.declared.state.PoolState.{PoolState}
@@ -12,8 +11,8 @@ use Rattle.pool_book.specs.declared.connections.Available.{Available}
 use Rattle.pool_book.specs.declared.answers.Take.{Take}
 use Rattle.pool_book.specs.declared.answers.Take.TheVariants as take_of
 use Rattle.pool_book.specs.Pool.{Pool, numbers_of, ticket_of, last_of, is_closed, is_paused, is_ready, is_swept, is_cleared, is_late, is_served, has_place, can_take}
-use Rattle.pool_book.specs.Entries.{PoolEntry, Lent, Dialled, NotLent, Closed, Cleared, Late, Goes, after}
-use Rattle.pool_book.specs.Answers.{Answers, answer_due, taken_from, MustWait}
+use Rattle.pool_book.specs.Entries.{Lent, Dialled, NotLent, Closed, Cleared, Late, after}
+use Rattle.pool_book.specs.Answers.{Answers, answer_due, taken_from}
 
 -- the pool behind an answer
 abbrev pub behind : Pool → ℕ → ℕ → Take → Pool

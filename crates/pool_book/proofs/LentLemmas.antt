@@ -1,8 +1,8 @@
 -- A connection that is lent had no borrower and is of the pool's generation.
-use Rattle.std.proofs.Common.{◌≡◌, ℕ, zero, suc, ◌+◌, ◌-◌, ◌<◌, ◌≤◌, Bool, true, false, not, ◌&&◌, ◌||◌, cond, eqb, ltb, List, [], ◌∷◌, ◌++◌, length, take, map, Option, Some, None, refl, sym, ap, ◌∙◌, subst, arith, inl, inr}
+use Rattle.std.proofs.Common.{◌≡◌, ℕ, zero, suc, ◌+◌, ◌-◌, ◌<◌, Bool, true, false, not, ◌&&◌, ◌||◌, cond, eqb, List, [], ◌∷◌, ◌++◌, length, map, Option, Some, None, refl, sym, ap, ◌∙◌, subst, arith, inl, inr}
 use Rattle.std.specs.Prelude.{slice_get, option_to_list, All}
 use Rattle.std.specs.Option.{option_map}
-use Rattle.std.specs.List.{filter, find, list_any, position_or_len}
+use Rattle.std.specs.List.{find, list_any, position_or_len}
 use Rattle.std.proofs.lemmas.List.Folds.{find_at}
 use Rattle.std.specs.Bool.{◌==◌}
 use Rattle.std.proofs.lemmas.Bool.{eqb-true, eq-eqb}
@@ -11,14 +11,13 @@ use Rattle.std.proofs.lemmas.List.{append-nil}
 use Rattle.std.proofs.lemmas.List.Elements.{All-nil, All-push, All-filter, All-take, All-weaker}
 use Rattle.std.proofs.lemmas.Option.{slice_get_within, get_or_from_slice_get}
 use Rattle.pool_book.specs.declared.rules.PoolRules.{PoolRules}
-use Rattle.pool_book.specs.declared.ticket.Ticket.{Ticket}
 use Rattle.pool_book.specs.declared.connections.Held.{Held}
 use Rattle.pool_book.specs.declared.connections.Available.{Available}
 use Rattle.pool_book.specs.declared.answers.CloseReason.TheVariants.{PoolClosed}
-use Rattle.pool_book.specs.Pool.{Pool, fresh_pool, is_closed, is_ready, held_of, without_held, last_of, is_kept, is_stale, is_perished, is_swept, is_served, is_worthless, shut_reason}
+use Rattle.pool_book.specs.Pool.{Pool, fresh_pool, is_closed, held_of, without_held, last_of, is_kept, is_perished, is_swept, is_worthless, shut_reason}
 use Rattle.pool_book.specs.Entries.{PoolEntry, Ready, Clear, Shut, Entered, Left, Lent, Dialled, Settled, NotLent, CheckedIn, ConnShut, Closed, Cleared, Late, Lost, MayStand, after, owes, owes_shut, lend, returned}
-use Rattle.pool_book.specs.Judge.{Judged, Timed, Legal, Stands, ComesNext, moved, state_after, settled, IsTrail, place_behind, entries_of}
-use Rattle.pool_book.specs.Sound.{Sound, times, times_held, times_available}
+use Rattle.pool_book.specs.Judge.{Timed, Legal, Stands, ComesNext, moved, state_after, settled, IsTrail, place_behind, entries_of}
+use Rattle.pool_book.specs.Sound.{Sound, times, times_held}
 use Rattle.pool_book.specs.Told.{told, clears, lends, Pair, pairs_of, bears, Born, Dials}
 use Rattle.pool_book.specs.Laws.{born_of, no_dials, IsFree}
 use Rattle.pool_book.proofs.ListLemmas.{find-passes}

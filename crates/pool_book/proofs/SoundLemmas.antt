@@ -1,8 +1,7 @@
 -- Every pool that a trail leads to is sound.
-use Rattle.std.proofs.Common.{◌≡◌, ℕ, ◌+◌, ◌-◌, ◌<◌, ◌≤◌, Bool, true, false, not, cond, eqb, List, [], ◌∷◌, ◌++◌, length, take, Option, Some, None, refl, sym, ap, ◌∙◌, subst, arith, inl, inr, ◌⊎◌, ◌&&◌}
-use Rattle.std.specs.Prelude.{slice_get, option_to_list, All}
+use Rattle.std.proofs.Common.{◌≡◌, ℕ, ◌+◌, ◌-◌, ◌≤◌, Bool, true, false, cond, eqb, List, [], ◌∷◌, ◌++◌, length, take, Option, Some, None, refl, subst, arith, inl, inr, ◌&&◌}
+use Rattle.std.specs.Prelude.{option_to_list}
 use Rattle.std.specs.Option.{option_map}
-use Rattle.std.specs.List.{filter, find}
 use Rattle.std.proofs.lemmas.Bool.{eqb-true}
 use Rattle.std.proofs.lemmas.List.{append-nil}
 use Rattle.std.proofs.lemmas.Bool.Decides.{eqb_tells}
@@ -15,7 +14,7 @@ use Rattle.pool_book.specs.declared.connections.Held.{Held}
 use Rattle.pool_book.specs.declared.connections.Available.{Available}
 use Rattle.pool_book.specs.Pool.{Pool, fresh_pool, is_closed, is_ready, ticket_of, without_ticket, held_of, without_held, without_available, last_of, is_kept}
 use Rattle.pool_book.specs.Entries.{PoolEntry, Ready, Clear, Shut, Entered, Left, Lent, Dialled, Settled, NotLent, CheckedIn, ConnShut, Closed, Cleared, Late, Lost, MayStand, after, owes, cleared_state, lend, returned, ticket_for}
-use Rattle.pool_book.specs.Judge.{Judged, Timed, Legal, Stands, moved, moved_by, state_after, settled, IsTrail, place_behind}
+use Rattle.pool_book.specs.Judge.{Timed, Legal, Stands, moved, state_after, IsTrail, place_behind}
 use Rattle.pool_book.specs.Sound.{Sound, times, times_held, times_available, times_of, times_waiting, times_holding, times_in}
 use Rattle.pool_book.proofs.ListLemmas.{find-passes}
 use Rattle.pool_book.proofs.TimesLemmas.{times-push, times-filter_most, times-taken, times-last}

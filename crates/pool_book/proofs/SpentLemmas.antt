@@ -1,5 +1,5 @@
 -- A ticket that waited at a clear gets no connection afterwards.
-use Rattle.std.proofs.Common.{◌≡◌, ℕ, ◌+◌, ◌<◌, ◌≤◌, Bool, true, false, not, ◌&&◌, ◌||◌, cond, eqb, ltb, List, [], ◌∷◌, ◌++◌, map, Option, Some, None, refl, sym, ap, ◌∙◌, subst, arith, inl, inr}
+use Rattle.std.proofs.Common.{◌≡◌, ℕ, ◌+◌, ◌<◌, ◌≤◌, Bool, true, false, not, ◌&&◌, ◌||◌, cond, eqb, ltb, List, [], ◌∷◌, ◌++◌, map, Option, Some, None, refl, sym, ◌∙◌, subst, arith, inl, inr}
 use Rattle.std.specs.Prelude.{All}
 use Rattle.std.specs.List.{list_any}
 use Rattle.std.proofs.lemmas.Bool.{eqb-true, eq-eqb, ltb-false, cases_lt, cases_Bool}
@@ -11,18 +11,18 @@ use Rattle.pool_book.specs.declared.ticket.Ticket.{Ticket}
 use Rattle.pool_book.specs.declared.connections.Held.{Held}
 use Rattle.pool_book.specs.declared.connections.Available.{Available}
 use Rattle.pool_book.specs.declared.answers.CloseReason.TheVariants.{PoolClosed}
-use Rattle.pool_book.specs.Pool.{Pool, fresh_pool, is_closed, is_paused, is_ready, ticket_of, without_ticket, numbers_of, held_of, without_held, is_cleared, is_served, is_kept, shut_reason}
+use Rattle.pool_book.specs.Pool.{Pool, fresh_pool, is_paused, is_ready, ticket_of, without_ticket, numbers_of, held_of, without_held, is_cleared, is_served, is_kept, shut_reason}
 use Rattle.pool_book.specs.Entries.{PoolEntry, Ready, Clear, Shut, Entered, Left, Lent, Dialled, Settled, NotLent, CheckedIn, ConnShut, Closed, Cleared, Late, Lost, MayStand, after, owes, owes_shut, ticket_for}
 use Rattle.pool_book.specs.Judge.{Judged, Timed, Legal, Stands, ComesNext, moved, state_after, settled, IsTrail, place_behind, entries_of}
-use Rattle.pool_book.specs.Sound.{Sound, times, times_waiting, times_holding}
+use Rattle.pool_book.specs.Sound.{Sound, times_waiting, times_holding}
 use Rattle.pool_book.specs.Told.{told, waits}
 use Rattle.pool_book.specs.Laws.{serves}
 use Rattle.pool_book.proofs.ListLemmas.{find-passes}
 use Rattle.pool_book.proofs.TimesLemmas.{times-push, times-filter_most}
-use Rattle.pool_book.proofs.SoundLemmas.{Sound-after, Sound-trail, Sound-fresh, Sound-legal}
+use Rattle.pool_book.proofs.SoundLemmas.{Sound-trail, Sound-fresh}
 use Rattle.pool_book.proofs.ToldLemmas.{Tells-waits, told-legal, times-found_by}
 use Rattle.pool_book.proofs.LentLemmas.{Pays, Pays-legal, All-find}
-use Rattle.pool_book.proofs.TrailLemmas.{Legal-front, Legal-rest, state_after-append}
+use Rattle.pool_book.proofs.TrailLemmas.{Legal-front, Legal-rest}
 
 -- the ticket waits with an older generation, if at all; it entered, and dials nothing
 pub record Spent (number : ℕ) (p : Pool) : Type 0 where

@@ -1,5 +1,5 @@
 -- What the entries so far say of a pool is what it shows.
-use Rattle.std.proofs.Common.{◌≡◌, ℕ, zero, suc, ◌+◌, ◌-◌, ◌<◌, ◌≤◌, Bool, true, false, not, cond, eqb, List, [], ◌∷◌, ◌++◌, length, take, map, Option, Some, None, refl, sym, ap, ◌∙◌, subst, arith}
+use Rattle.std.proofs.Common.{◌≡◌, ℕ, zero, suc, ◌+◌, ◌-◌, ◌≤◌, Bool, true, false, not, cond, eqb, List, [], ◌∷◌, ◌++◌, length, take, map, Option, Some, None, refl, sym, ap, ◌∙◌, arith}
 use Rattle.std.specs.Prelude.{slice_get, option_to_list}
 use Rattle.std.specs.Option.{option_map}
 use Rattle.std.specs.List.{filter, find}
@@ -14,10 +14,10 @@ use Rattle.pool_book.specs.declared.connections.Held.{Held}
 use Rattle.pool_book.specs.declared.connections.Available.{Available}
 use Rattle.pool_book.specs.declared.answers.CloseReason.{CloseReason}
 use Rattle.pool_book.specs.declared.answers.CloseReason.TheVariants.{PoolClosed}
-use Rattle.pool_book.specs.Pool.{Pool, fresh_pool, is_closed, is_paused, numbers_of, ticket_of, without_ticket, held_of, without_held, without_available, last_of, is_kept, shut_reason}
+use Rattle.pool_book.specs.Pool.{Pool, fresh_pool, is_closed, is_paused, numbers_of, held_of, last_of, is_kept, shut_reason}
 use Rattle.pool_book.specs.Entries.{PoolEntry, Ready, Clear, Shut, Entered, Left, Lent, Dialled, Settled, NotLent, CheckedIn, ConnShut, Closed, Cleared, Late, Lost, MayStand, after, owes, owes_shut, cleared_state, ticket_for, lend, returned}
-use Rattle.pool_book.specs.Judge.{Judged, Timed, Legal, Stands, moved, state_after, settled, IsTrail, place_behind, entries_of}
-use Rattle.pool_book.specs.Sound.{Sound, times, times_held, times_available, times_waiting, times_holding}
+use Rattle.pool_book.specs.Judge.{Timed, Legal, Stands, moved, state_after, IsTrail, place_behind, entries_of}
+use Rattle.pool_book.specs.Sound.{Sound, times, times_held, times_available, times_waiting}
 use Rattle.pool_book.specs.Told.{told, clears, opens, waits, pends, frees, lends, Pair, conns_of, pairs_of, free_of}
 use Rattle.pool_book.proofs.ListLemmas.{find-passes, numbers_of-without_ticket}
 use Rattle.pool_book.proofs.TimesLemmas.{times-found, filter-times_none}

@@ -1,10 +1,10 @@
 -- Trails one behind another.
-use Rattle.std.proofs.Common.{◌≡◌, ℕ, zero, suc, List, [], ◌∷◌, ◌++◌, take, Some, None, refl, sym, ap, ◌∙◌, subst}
+use Rattle.std.proofs.Common.{◌≡◌, ℕ, zero, suc, List, [], ◌∷◌, ◌++◌, take, Some, refl, sym, ap, ◌∙◌, subst}
 use Rattle.std.specs.Prelude.{slice_get}
 use Rattle.pool_book.specs.declared.rules.PoolRules.{PoolRules}
 use Rattle.pool_book.specs.Pool.{Pool, fresh_pool}
 use Rattle.pool_book.specs.Entries.{PoolEntry, after, owes, Goes}
-use Rattle.pool_book.specs.Judge.{Legal, state_after, Timed, Judged, Stands, moved, settled, IsTrail, place_behind, timed, group, LeadsTo}
+use Rattle.pool_book.specs.Judge.{Legal, state_after, Timed, Stands, moved, settled, timed, group, LeadsTo}
 
 pub Legal-append : {S E : Type 0} (May : S → E → Type 0) (next : S → E → S) (s : S) (xs ys : List E) →
     Legal May next s xs → Legal May next (state_after next s xs) ys → Legal May next s (xs ++ ys)

@@ -1,5 +1,5 @@
 -- What a pool's book answers, and the entry that each answer stands for.
-use Rattle.std.specs.Prelude.{◌≡◌, ℕ, ◌+◌, Bool, true, false, Option, Some, None, unwrap_or, find, if◌then◌else◌}
+use Rattle.std.specs.Prelude.{◌≡◌, ℕ, ◌+◌, Bool, false, Option, Some, None, unwrap_or, find, if◌then◌else◌}
 use Rattle.std.specs.Option.{option_map}
 use Rattle.wait_line.specs.Line.{is_first}
 use Rattle.pool_book.specs.declared.ticket.Ticket.{Ticket}
@@ -13,7 +13,7 @@ use Rattle.pool_book.specs.declared.answers.Fate.{Fate}
 use Rattle.pool_book.specs.declared.answers.Fate.TheVariants as fate_of
 use Rattle.pool_book.specs.declared.answers.Swept.{Swept}
 use Rattle.pool_book.specs.Pool.{Pool, numbers_of, ticket_of, last_of, is_closed, is_perished, perish_reason, shut_reason, is_worthless, is_kept, is_cleared, is_late, has_place, can_take}
-use Rattle.pool_book.specs.Entries.{PoolEntry, Lent, Dialled, NotLent, Closed, Cleared, Late, Goes}
+use Rattle.pool_book.specs.Entries.{Lent, Dialled, NotLent, Closed, Cleared, Late, Goes}
 
 -- What the first of the line may have: the connection that was checked in last, else a new one where there is room to
 -- dial (CMAP, Checking Out a Connection).

@@ -1,7 +1,6 @@
 -- The entries of a pool: when each may stand, what the pool is behind it, and what must follow at once.
 use Rattle.std.specs.Prelude.{◌≡◌, ℕ, ◌+◌, ◌-◌, Bool, true, false, Option, Some, None, List, [], ◌∷◌, ◌++◌, length, map, take, slice_get, option_to_list, if◌then◌else◌}
 use Rattle.std.specs.Option.{option_map}
-use Rattle.pool_book.specs.declared.rules.PoolRules.{PoolRules}
 use Rattle.pool_book.specs.declared.state.PoolState.{PoolState}
 use Rattle.pool_book.specs.declared.state.PoolState.TheVariants as state_of
 use Rattle.pool_book.specs.declared.ticket.Ticket.{Ticket}
@@ -9,7 +8,7 @@ use Rattle.pool_book.specs.declared.connections.Held.{Held}
 use Rattle.pool_book.specs.declared.connections.Available.{Available}
 use Rattle.pool_book.specs.declared.answers.CloseReason.{CloseReason}
 use Rattle.pool_book.specs.declared.answers.CloseReason.TheVariants.{Errored, PoolClosed}
-use Rattle.pool_book.specs.Pool.{Pool, fresh_pool, is_paused, is_ready, is_closed, ticket_of, without_ticket, held_of, without_held, without_available, last_of, is_perished, is_swept, perish_reason, shut_reason, is_worthless, is_kept, is_cleared, is_late, is_served, has_place, can_take}
+use Rattle.pool_book.specs.Pool.{Pool, is_paused, is_closed, ticket_of, without_ticket, held_of, without_held, without_available, last_of, is_perished, perish_reason, shut_reason, is_worthless, is_kept, is_cleared, is_late, is_served, has_place, can_take}
 
 -- Why a ticket has no connection (CMAP, ConnectionCheckOutFailedEvent: poolClosed, connectionError for a cleared pool,
 -- timeout, connectionError for a connection that was lost as it was dialled).

@@ -1,5 +1,5 @@
 -- What a book keeps, and what it shows of it.
-use Rattle.std.specs.Prelude.{◌≡◌, ℕ, ◌+◌, ◌^◌, ◌<◌, ◌≤◌, length, vec_capacity}
+use Rattle.std.specs.Prelude.{ℕ, ◌+◌, ◌^◌, ◌<◌, ◌≤◌, length, vec_capacity}
 use Rattle.pool_book.specs.Pool.{Pool}
 use Rattle.pool_book.specs.declared.book.PoolBook.TheInside.{Inside}
 

@@ -2,7 +2,7 @@
 use Rattle.std.specs.Prelude.{◌≡◌, ℕ, List, [], ◌∷◌, ◌++◌, map}
 use Rattle.pool_book.specs.declared.rules.PoolRules.{PoolRules}
 use Rattle.pool_book.specs.Pool.{Pool, fresh_pool}
-use Rattle.pool_book.specs.Entries.{PoolEntry, MayStand, after, owes, Goes}
+use Rattle.pool_book.specs.Entries.{PoolEntry, MayStand, after, owes}
 
 -- Each entry may stand where those ahead of it lead (own: a trail is judged entry by entry).
 abbrev pub Legal : {S E : Type 0} → (S → E → Type 0) → (S → E → S) → S → List E → Type 0

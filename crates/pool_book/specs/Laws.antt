@@ -3,7 +3,7 @@ use Rattle.std.specs.Prelude.{◌≡◌, ℕ, Bool, false, ◌==◌, Option, Som
 use Rattle.std.specs.List.{list_any}
 use Rattle.std.specs.Option.{option_map}
 use Rattle.pool_book.specs.Entries.{PoolEntry, Lent, Dialled}
-use Rattle.pool_book.specs.Told.{told, clears, lends, Pair, bears, Born, Dials}
+use Rattle.pool_book.specs.Told.{told, clears, lends, bears, Born, Dials}
 
 -- An entry gives a ticket a connection, to use or to dial (CMAP, Checking Out a Connection).
 abbrev pub serves : ℕ → PoolEntry → Bool

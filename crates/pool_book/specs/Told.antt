@@ -1,5 +1,5 @@
 -- What the entries so far say of a pool, each word of the standard by itself.
-use Rattle.std.specs.Prelude.{ℕ, ◌+◌, Bool, not, ◌==◌, List, [], ◌∷◌, ◌++◌, filter, map, if◌then◌else◌}
+use Rattle.std.specs.Prelude.{ℕ, ◌+◌, not, ◌==◌, List, [], ◌∷◌, ◌++◌, filter, map, if◌then◌else◌}
 use Rattle.wait_line.specs.Line.{without_number}
 use Rattle.pool_book.specs.declared.state.PoolState.{PoolState}
 use Rattle.pool_book.specs.declared.state.PoolState.TheVariants as state_of

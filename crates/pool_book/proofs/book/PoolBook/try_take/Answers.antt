@@ -1,5 +1,5 @@
 -- What is due stands, and each arm leaves the pool behind it.
-use Rattle.std.proofs.Common.{◌≡◌, sym, ◌∙◌, refl, inl, inr}
+use Rattle.std.proofs.Common.{sym, ◌∙◌, refl, inl, inr}
 use Rattle.pool_book.specs.declared.answers.Take.TheVariants.{Dial}
 use Rattle.pool_book.proofs.AnswerLemmas.{Answers-by}
 use Rattle.pool_book.proofs.book.PoolBook.try_take.Goals as goal

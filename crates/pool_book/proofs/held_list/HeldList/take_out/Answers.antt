@@ -1,8 +1,7 @@
 -- What `retain` keeps is the filter by its closure's test, which keeps fewer where one is found.
-use Rattle.std.proofs.Common.{◌≡◌, ℕ, ◌+◌, ◌≤◌, not, eqb, rules, length, OnSome, IsSome, Option, Some, None}
+use Rattle.std.proofs.Common.{not, eqb, rules}
 use Rattle.std.proofs.lemmas.Fn.{filter_same}
 use Rattle.pool_book.specs.declared.connections.Held.{Held}
-use Rattle.pool_book.specs.Pool.{held_of, without_held}
 use Rattle.pool_book.proofs.ListLemmas.{length-filter_fewer, OnSome-from}
 use Rattle.pool_book.proofs.held_list.HeldList.take_out.Goals as goal
 

@@ -1,8 +1,7 @@
 -- What `retain` keeps is the filter by its closure's test, as the line of numbers does.
-use Rattle.std.proofs.Common.{◌≡◌, ℕ, ◌+◌, ◌≤◌, not, eqb, rules, length, ap, ◌∙◌, sym}
+use Rattle.std.proofs.Common.{not, eqb, rules}
 use Rattle.std.proofs.lemmas.Fn.{filter_same}
 use Rattle.pool_book.specs.declared.ticket.Ticket.{Ticket}
-use Rattle.pool_book.specs.Pool.{ticket_of, without_ticket, numbers_of}
 use Rattle.pool_book.proofs.ListLemmas.{length-filter_fewer, numbers_of-without_ticket}
 use Rattle.pool_book.proofs.ticket_line.TicketLine.leave.Goals as goal
 

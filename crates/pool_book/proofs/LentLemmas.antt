@@ -18,12 +18,12 @@ use Rattle.pool_book.specs.Pool.{Pool, fresh_pool, is_closed, held_of, without_h
 use Rattle.pool_book.specs.Entries.{PoolEntry, Ready, Clear, Shut, Entered, Left, Lent, Dialled, Settled, NotLent, CheckedIn, ConnShut, Closed, Cleared, Late, Lost, MayStand, after, owes, owes_shut, lend, returned}
 use Rattle.pool_book.specs.Judge.{Timed, Legal, Stands, ComesNext, moved, state_after, settled, IsTrail, place_behind, entries_of}
 use Rattle.pool_book.specs.Sound.{Sound, times, times_held}
-use Rattle.pool_book.specs.Told.{told, clears, lends, Pair, pairs_of, bears, Born, Dials}
+use Rattle.pool_book.specs.Told.{told, generation_by, lent_by, Pair, pairs_of, dials_by, Born, Dials}
 use Rattle.pool_book.specs.Laws.{born_of, no_dials, IsFree}
 use Rattle.pool_book.proofs.ListLemmas.{find-passes}
 use Rattle.pool_book.proofs.TimesLemmas.{times-push, times-found}
 use Rattle.pool_book.proofs.SoundLemmas.{Sound-after, Sound-trail, Sound-fresh, last_of-Some}
-use Rattle.pool_book.proofs.ToldLemmas.{Tells-clears, Tells-lends, told-legal, told-shuts, told-owes_shut, times-at, last-conn}
+use Rattle.pool_book.proofs.ToldLemmas.{Tells-generation_by, Tells-lent_by, told-legal, told-shuts, told-owes_shut, times-at, last-conn}
 use Rattle.pool_book.proofs.TrailLemmas.{Legal-front, Legal-rest}
 
 -- where none is counted none is found
@@ -198,7 +198,7 @@ BornIn-lent p moment number conn d a b e =
     }
 
 BornIn-dialled : (p : Pool) (moment number : ℕ) (d : Dials) → BornIn p d →
-    BornIn (after p moment (Dialled number (p.dialled + 1))) (bears d (Dialled number (p.dialled + 1)))
+    BornIn (after p moment (Dialled number (p.dialled + 1))) (dials_by d (Dialled number (p.dialled + 1)))
 BornIn-dialled p moment number d b =
     let new : Born = record { conn = p.dialled + 1; generation = d.now } in
     let held : Held = record { conn = p.dialled + 1; ticket = number; generation = p.generation } in
@@ -264,7 +264,7 @@ BornIn-same p q d b g i j k n = record {
   later = λ conn l. b.later conn (rw (← n) l);
 }
 
-BornIn-after : (p : Pool) (moment : ℕ) (e : PoolEntry) (d : Dials) → BornIn p d → MayStand p moment e → BornIn (after p moment e) (bears d e)
+BornIn-after : (p : Pool) (moment : ℕ) (e : PoolEntry) (d : Dials) → BornIn p d → MayStand p moment e → BornIn (after p moment e) (dials_by d e)
 BornIn-after p moment Ready d b m = BornIn-same p _ d b refl refl refl refl refl
 BornIn-after p moment Clear d b m = record { generation = ap (λ n. n + 1) b.generation; pending = b.pending; lent = b.lent; available = b.available; later = b.later }
 BornIn-after p moment Shut d b m = record { generation = b.generation; pending = b.pending; lent = b.lent; available = All-nil (λ (a : Available). born_of a.conn d.born ≡ Some a.generation); later = b.later }
@@ -283,31 +283,31 @@ BornIn-after p moment (CheckedIn number conn errored) d b m = BornIn-checked_in 
 BornIn-after p moment (ConnShut conn reason) d b m = record { generation = b.generation; pending = b.pending; lent = b.lent; available = All-filter _ (λ (a : Available). born_of a.conn d.born ≡ Some a.generation) p.available b.available; later = b.later }
 
 -- what must follow dials nothing and clears nothing
-bears-owes : (p : Pool) (e : PoolEntry) (d : Dials) → told bears d (owes p e) ≡ d
-bears-owes p Ready d = refl
-bears-owes p Clear d = refl
-bears-owes p Shut d = told-shuts bears d p.available (λ y c r. refl)
-bears-owes p (Entered number) d = refl
-bears-owes p (Left number) d = refl
-bears-owes p (Lent number conn) d = refl
-bears-owes p (Dialled number conn) d = refl
-bears-owes p (Settled number conn true) d = refl
-bears-owes p (Settled number conn false) d = refl
-bears-owes p (NotLent number Closed) d = refl
-bears-owes p (NotLent number (Cleared g)) d = refl
-bears-owes p (NotLent number Late) d = refl
-bears-owes p (NotLent number (Lost conn)) d = refl
-bears-owes p (CheckedIn number conn errored) d = told-owes_shut bears d p errored (held_of conn p.lent) (λ y c r. refl)
-bears-owes p (ConnShut conn reason) d = refl
+dials_by-owes : (p : Pool) (e : PoolEntry) (d : Dials) → told dials_by d (owes p e) ≡ d
+dials_by-owes p Ready d = refl
+dials_by-owes p Clear d = refl
+dials_by-owes p Shut d = told-shuts dials_by d p.available (λ y c r. refl)
+dials_by-owes p (Entered number) d = refl
+dials_by-owes p (Left number) d = refl
+dials_by-owes p (Lent number conn) d = refl
+dials_by-owes p (Dialled number conn) d = refl
+dials_by-owes p (Settled number conn true) d = refl
+dials_by-owes p (Settled number conn false) d = refl
+dials_by-owes p (NotLent number Closed) d = refl
+dials_by-owes p (NotLent number (Cleared g)) d = refl
+dials_by-owes p (NotLent number Late) d = refl
+dials_by-owes p (NotLent number (Lost conn)) d = refl
+dials_by-owes p (CheckedIn number conn errored) d = told-owes_shut dials_by d p errored (held_of conn p.lent) (λ y c r. refl)
+dials_by-owes p (ConnShut conn reason) d = refl
 
-pub BornIn-legal : (p : Pool) (owed : List PoolEntry) (ts : List Timed) (d : Dials) → BornIn p (told bears d owed) →
+pub BornIn-legal : (p : Pool) (owed : List PoolEntry) (ts : List Timed) (d : Dials) → BornIn p (told dials_by d owed) →
     Legal Stands moved (record { pool = p; owed = owed }) ts →
-    let j = state_after moved (record { pool = p; owed = owed }) ts in BornIn j.pool (told bears (told bears d (entries_of ts)) j.owed)
+    let j = state_after moved (record { pool = p; owed = owed }) ts in BornIn j.pool (told dials_by (told dials_by d (entries_of ts)) j.owed)
 BornIn-legal p owed [] d b l = b
 BornIn-legal p [] (t ∷ ts) d b l =
-    BornIn-legal (after p t.at t.what) (owes p t.what) ts (bears d t.what) (rw (bears-owes p t.what (bears d t.what)) (BornIn-after p t.at t.what d b l.0)) l.1
+    BornIn-legal (after p t.at t.what) (owes p t.what) ts (dials_by d t.what) (rw (dials_by-owes p t.what (dials_by d t.what)) (BornIn-after p t.at t.what d b l.0)) l.1
 BornIn-legal p (x ∷ xs) (t ∷ ts) d b l =
-    BornIn-legal p xs ts (bears d t.what) (subst (λ e. BornIn p (told bears (bears d e) xs)) (sym l.0) b) l.1
+    BornIn-legal p xs ts (dials_by d t.what) (subst (λ e. BornIn p (told dials_by (dials_by d e) xs)) (sym l.0) b) l.1
 
 BornIn-fresh : (rules : PoolRules) → BornIn (fresh_pool rules) no_dials
 BornIn-fresh rules = record {
@@ -350,8 +350,8 @@ counts_itself k = rw (eq-eqb k k refl) refl
 
 -- what holds at a place where a connection is lent
 free_at : (p : Pool) (owed es : List PoolEntry) (moment number conn : ℕ) → Sound p → Pays p owed →
-    told lends (told lends [] es) owed ≡ pairs_of p.lent → told clears (told clears 0 es) owed ≡ p.generation →
-    BornIn p (told bears (told bears no_dials es) owed) →
+    told lent_by (told lent_by [] es) owed ≡ pairs_of p.lent → told generation_by (told generation_by 0 es) owed ≡ p.generation →
+    BornIn p (told dials_by (told dials_by no_dials es) owed) →
     ComesNext owed (Lent number conn) (MayStand p moment (Lent number conn)) → IsFree es conn
 free_at p [] es moment number conn s h l g b m =
     let last = last_of-Some (last_of p.available) conn m.3 in
@@ -359,32 +359,32 @@ free_at p [] es moment number conn s h l g b m =
     let k = length p.available - 1 in
     let there = times-at (λ (a : Available). eqb a.conn conn) p.available k last.0 last.1 (eq-eqb _ _ same) in
     let absent : times_held conn p.lent ≡ 0 = omega (arith, s.once conn) in
-    let none : times (λ (q : Pair). eqb q.conn conn) (told lends [] es) ≡ 0 = rw (l, times-pairs conn p.lent) absent in
+    let none : times (λ (q : Pair). eqb q.conn conn) (told lent_by [] es) ≡ 0 = rw (l, times-pairs conn p.lent) absent in
     let current = swept_current p moment k last.0 (and-right _ _ m.2) last.1 in
-    let own = All-at (λ (a : Available). born_of a.conn (told bears no_dials es).born ≡ Some a.generation) p.available k last.0 b.available last.1 in
+    let own = All-at (λ (a : Available). born_of a.conn (told dials_by no_dials es).born ≡ Some a.generation) p.available k last.0 b.available last.1 in
     record {
       no_borrower = list_any-times_none _ _ none;
-      current = subst (λ c. born_of c (told bears no_dials es).born ≡ Some (told clears 0 es)) same (own ∙ ap (λ n. Some n) (current ∙ sym g));
+      current = subst (λ c. born_of c (told dials_by no_dials es).born ≡ Some (told generation_by 0 es)) same (own ∙ ap (λ n. Some n) (current ∙ sym g));
     }
 free_at p (d ∷ ds) es moment number conn s h l g b m =
-    paid p ds s (subst (λ e. Pays p (e ∷ ds)) (sym m) h) (subst (λ e. told lends (told lends [] es) (e ∷ ds) ≡ pairs_of p.lent) (sym m) l)
-    (subst (λ e. told clears (told clears 0 es) (e ∷ ds) ≡ p.generation) (sym m) g)
-    (subst (λ e. BornIn p (told bears (told bears no_dials es) (e ∷ ds))) (sym m) b) where
-      lent_alone : (q : Pool) → Sound q → HasLent q number conn → told lends [] es ++ record { ticket = number; conn = conn } ∷ [] ≡ pairs_of q.lent →
-          told clears 0 es ≡ q.generation → BornIn q (told bears no_dials es) → IsFree es conn
+    paid p ds s (subst (λ e. Pays p (e ∷ ds)) (sym m) h) (subst (λ e. told lent_by (told lent_by [] es) (e ∷ ds) ≡ pairs_of p.lent) (sym m) l)
+    (subst (λ e. told generation_by (told generation_by 0 es) (e ∷ ds) ≡ p.generation) (sym m) g)
+    (subst (λ e. BornIn p (told dials_by (told dials_by no_dials es) (e ∷ ds))) (sym m) b) where
+      lent_alone : (q : Pool) → Sound q → HasLent q number conn → told lent_by [] es ++ record { ticket = number; conn = conn } ∷ [] ≡ pairs_of q.lent →
+          told generation_by 0 es ≡ q.generation → BornIn q (told dials_by no_dials es) → IsFree es conn
       lent_alone q sq x lq gq bq =
-          let own = All-find (λ (k : Held). born_of k.conn (told bears no_dials es).born ≡ Some k.generation) (λ (k : Held). eqb k.conn conn) q.lent x.held bq.lent x.found in
+          let own = All-find (λ (k : Held). born_of k.conn (told dials_by no_dials es).born ≡ Some k.generation) (λ (k : Held). eqb k.conn conn) q.lent x.held bq.lent x.found in
           let same = eqb-true _ _ (find-passes (λ (k : Held). eqb k.conn conn) q.lent x.held x.found) in
-          let pushed : times (λ (r : Pair). eqb r.conn conn) (told lends [] es ++ record { ticket = number; conn = conn } ∷ []) ≡ times (λ (r : Pair). eqb r.conn conn) (told lends [] es) + cond (eqb conn conn) 1 0 = times-push (λ (r : Pair). eqb r.conn conn) (told lends [] es) (record { ticket = number; conn = conn }) in
-          let all : times (λ (r : Pair). eqb r.conn conn) (told lends [] es ++ record { ticket = number; conn = conn } ∷ []) ≡ times_held conn q.lent = rw lq (times-pairs conn q.lent) in
-          let none : times (λ (r : Pair). eqb r.conn conn) (told lends [] es) ≡ 0 = omega (arith, sq.once conn, counts_itself conn) in
+          let pushed : times (λ (r : Pair). eqb r.conn conn) (told lent_by [] es ++ record { ticket = number; conn = conn } ∷ []) ≡ times (λ (r : Pair). eqb r.conn conn) (told lent_by [] es) + cond (eqb conn conn) 1 0 = times-push (λ (r : Pair). eqb r.conn conn) (told lent_by [] es) (record { ticket = number; conn = conn }) in
+          let all : times (λ (r : Pair). eqb r.conn conn) (told lent_by [] es ++ record { ticket = number; conn = conn } ∷ []) ≡ times_held conn q.lent = rw lq (times-pairs conn q.lent) in
+          let none : times (λ (r : Pair). eqb r.conn conn) (told lent_by [] es) ≡ 0 = omega (arith, sq.once conn, counts_itself conn) in
           record {
             no_borrower = list_any-times_none _ _ none;
-            current = subst (λ c. born_of c (told bears no_dials es).born ≡ Some (told clears 0 es)) same (own ∙ ap (λ n. Some n) (x.current ∙ sym gq));
+            current = subst (λ c. born_of c (told dials_by no_dials es).born ≡ Some (told generation_by 0 es)) same (own ∙ ap (λ n. Some n) (x.current ∙ sym gq));
           }
 
-      paid : (q : Pool) (xs : List PoolEntry) → Sound q → Pays q (Lent number conn ∷ xs) → told lends (told lends [] es) (Lent number conn ∷ xs) ≡ pairs_of q.lent →
-          told clears (told clears 0 es) (Lent number conn ∷ xs) ≡ q.generation → BornIn q (told bears (told bears no_dials es) (Lent number conn ∷ xs)) → IsFree es conn
+      paid : (q : Pool) (xs : List PoolEntry) → Sound q → Pays q (Lent number conn ∷ xs) → told lent_by (told lent_by [] es) (Lent number conn ∷ xs) ≡ pairs_of q.lent →
+          told generation_by (told generation_by 0 es) (Lent number conn ∷ xs) ≡ q.generation → BornIn q (told dials_by (told dials_by no_dials es) (Lent number conn ∷ xs)) → IsFree es conn
       paid q [] sq x lq gq bq = lent_alone q sq x.1 lq gq bq
       paid q (y ∷ ys) sq x lq gq bq = absurd (let no = x.0 in cc)
 
@@ -399,6 +399,6 @@ lent_free rules ts moment number conn l =
     let j = place_behind rules ts in
     free_at j.pool j.owed (entries_of ts) moment number conn (Sound-trail rules ts front)
     (Pays-legal (fresh_pool rules) [] ts (Sound-fresh rules) tt front)
-    (told-legal (λ p. pairs_of p.lent) lends Tells-lends (fresh_pool rules) [] ts [] (Sound-fresh rules) refl front)
-    (told-legal (λ p. p.generation) clears Tells-clears (fresh_pool rules) [] ts 0 (Sound-fresh rules) refl front)
+    (told-legal (λ p. pairs_of p.lent) lent_by Tells-lent_by (fresh_pool rules) [] ts [] (Sound-fresh rules) refl front)
+    (told-legal (λ p. p.generation) generation_by Tells-generation_by (fresh_pool rules) [] ts 0 (Sound-fresh rules) refl front)
     (BornIn-legal (fresh_pool rules) [] ts no_dials (BornIn-fresh rules) front) rest.0

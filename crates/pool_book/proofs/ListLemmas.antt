@@ -1,5 +1,5 @@
 -- Lemmas on lists of tickets and connections.
-use Rattle.std.proofs.Common.{◌≡◌, ℕ, ◌+◌, ◌≤◌, Bool, true, false, not, cond, eqb, List, [], ◌∷◌, length, Option, Some, None, IsSome, IfNone, OnSome, refl, ap, ◌||◌, arith}
+use Rattle.std.proofs.Common.{◌≡◌, ℕ, ◌+◌, ◌≤◌, Bool, true, false, not, cond, eqb, List, [], ◌∷◌, length, Option, Some, None, IsSome, IfNone, OnSome, refl, ap, sym, ◌∙◌, ◌||◌, arith}
 use Rattle.std.specs.List.{filter, find, list_any}
 use Rattle.std.proofs.lemmas.List.Filters.{length-filter_both}
 use Rattle.wait_line.specs.Line.{is_first, without_number}
@@ -67,3 +67,16 @@ is_first-length (t ∷ ts) number e = omega arith
 pub IfNone-from : {X : Type 0} (o : Option X) (P : Type 0) → P → IfNone o P
 IfNone-from None P h = h
 IfNone-from (Some x) P h = tt
+
+-- what one test finds is found by another that it passes
+pub find-by : {X : Type 0} (p q : X → Bool) (xs : List X) (x : X) → find p xs ≡ Some x → q x ≡ true → IsSome (find q xs)
+find-by p q [] x e t = absurd (cc)
+find-by p q (y ∷ ys) x e t =
+    elim (q y) as (λ b. q y ≡ b → IsSome (cond b (Some y) (find q ys))) [
+      | true ↦ λ _. refl
+      | false ↦ λ no.
+          elim (p y) as (λ b. cond b (Some y) (find p ys) ≡ Some x → IsSome (find q ys)) [
+            | true ↦ λ found. let same : y ≡ x = cc in absurd (let wrong : false ≡ true = sym no ∙ rw same t in cc)
+            | false ↦ λ found. find-by p q ys x found t
+          ] e
+    ] refl

@@ -15,12 +15,12 @@ use Rattle.pool_book.specs.Pool.{Pool, fresh_pool, is_paused, is_ready, ticket_o
 use Rattle.pool_book.specs.Entries.{PoolEntry, Ready, Clear, Shut, Entered, Left, Lent, Dialled, Settled, NotLent, CheckedIn, ConnShut, Closed, Cleared, Late, Lost, MayStand, after, owes, owes_shut, ticket_for}
 use Rattle.pool_book.specs.Judge.{Judged, Timed, Legal, Stands, ComesNext, moved, state_after, settled, IsTrail, place_behind, entries_of}
 use Rattle.pool_book.specs.Sound.{Sound, times_waiting, times_holding}
-use Rattle.pool_book.specs.Told.{told, waits}
+use Rattle.pool_book.specs.Told.{told, waiting_by}
 use Rattle.pool_book.specs.Laws.{serves}
 use Rattle.pool_book.proofs.ListLemmas.{find-passes}
 use Rattle.pool_book.proofs.TimesLemmas.{times-push, times-filter_most}
 use Rattle.pool_book.proofs.SoundLemmas.{Sound-trail, Sound-fresh}
-use Rattle.pool_book.proofs.ToldLemmas.{Tells-waits, told-legal, times-found_by}
+use Rattle.pool_book.proofs.ToldLemmas.{Tells-waiting_by, told-legal, times-found_by}
 use Rattle.pool_book.proofs.LentLemmas.{Pays, Pays-legal, All-find}
 use Rattle.pool_book.proofs.TrailLemmas.{Legal-front, Legal-rest}
 
@@ -193,7 +193,7 @@ Spent-clear p moment number s a =
 
 -- from a clear on
 spent_from : (p : Pool) (owed es : List PoolEntry) (moment number : ℕ) (between : List Timed) (last : Timed) → Sound p → Pays p owed →
-    told waits (told waits [] es) owed ≡ numbers_of p.waiting → is_among (told waits [] es) number ≡ true → serves number last.what ≡ true →
+    told waiting_by (told waiting_by [] es) owed ≡ numbers_of p.waiting → is_among (told waiting_by [] es) number ≡ true → serves number last.what ≡ true →
     Legal Stands moved (record { pool = p; owed = owed }) (record { at = moment; what = Clear } ∷ (between ++ last ∷ [])) → ⊥
 spent_from p [] es moment number between last s h w a v l =
     let start = settled (after p moment Clear) in
@@ -207,7 +207,7 @@ spent_from p (d ∷ ds) es moment number between last s h w a v l = subst (λ e.
 
 never_served : (rules : PoolRules) (before : List Timed) (moment : ℕ) (between : List Timed) (last : Timed) (number : ℕ) →
     IsTrail rules (before ++ record { at = moment; what = Clear } ∷ (between ++ last ∷ [])) →
-    is_among (told waits [] (entries_of before)) number ≡ true → serves number last.what ≡ true → ⊥
+    is_among (told waiting_by [] (entries_of before)) number ≡ true → serves number last.what ≡ true → ⊥
 never_served rules before moment between last number l a v =
     let start = settled (fresh_pool rules) in
     let behind : List Timed = record { at = moment; what = Clear } ∷ (between ++ last ∷ []) in
@@ -216,10 +216,10 @@ never_served rules before moment between last number l a v =
     let j = place_behind rules before in
     spent_from j.pool j.owed (entries_of before) moment number between last (Sound-trail rules before front)
     (Pays-legal (fresh_pool rules) [] before (Sound-fresh rules) tt front)
-    (told-legal (λ p. numbers_of p.waiting) waits Tells-waits (fresh_pool rules) [] before [] (Sound-fresh rules) refl front) a v rest
+    (told-legal (λ p. numbers_of p.waiting) waiting_by Tells-waiting_by (fresh_pool rules) [] before [] (Sound-fresh rules) refl front) a v rest
 
 pub serves-never : (rules : PoolRules) (before : List Timed) (moment : ℕ) (between : List Timed) (last : Timed) (number : ℕ) →
     IsTrail rules (before ++ record { at = moment; what = Clear } ∷ (between ++ last ∷ [])) →
-    is_among (told waits [] (entries_of before)) number ≡ true → serves number last.what ≡ false
+    is_among (told waiting_by [] (entries_of before)) number ≡ true → serves number last.what ≡ false
 serves-never rules before moment between last number l a =
     elim (cases_Bool (serves number last.what)) [ inl served ↦ absurd (never_served rules before moment between last number l a served) | inr not_served ↦ not_served ]

@@ -18,7 +18,7 @@ use Rattle.pool_book.specs.Pool.{Pool, fresh_pool, is_closed, is_paused, numbers
 use Rattle.pool_book.specs.Entries.{PoolEntry, Ready, Clear, Shut, Entered, Left, Lent, Dialled, Settled, NotLent, CheckedIn, ConnShut, Closed, Cleared, Late, Lost, MayStand, after, owes, owes_shut, cleared_state, ticket_for, lend, returned}
 use Rattle.pool_book.specs.Judge.{Timed, Legal, Stands, moved, state_after, IsTrail, place_behind, entries_of}
 use Rattle.pool_book.specs.Sound.{Sound, times, times_held, times_available, times_waiting}
-use Rattle.pool_book.specs.Told.{told, clears, opens, waits, pends, frees, lends, Pair, conns_of, pairs_of, free_of}
+use Rattle.pool_book.specs.Told.{told, generation_by, state_by, waiting_by, pending_by, available_by, lent_by, Pair, conns_of, pairs_of, free_of}
 use Rattle.pool_book.proofs.ListLemmas.{find-passes, numbers_of-without_ticket}
 use Rattle.pool_book.proofs.TimesLemmas.{times-found, filter-times_none}
 use Rattle.pool_book.proofs.SoundLemmas.{Sound-after, Sound-fresh, last_of-Some}
@@ -64,12 +64,12 @@ told-owes_shut g x p errored None h = refl
 told-owes_shut g x p errored (Some k) h =
     elim (is_kept p errored k) as (λ b. told g x (cond b [] (ConnShut k.conn (shut_reason p errored) ∷ [])) ≡ x) [ true ↦ refl | false ↦ h x k.conn (shut_reason p errored) ]
 
-pub Tells-clears : Tells (λ p. p.generation) clears
-Tells-clears = record { each = each } where
-  each : (p : Pool) (moment : ℕ) (e : PoolEntry) → Sound p → MayStand p moment e → told clears (clears p.generation e) (owes p e) ≡ (after p moment e).generation
+pub Tells-generation_by : Tells (λ p. p.generation) generation_by
+Tells-generation_by = record { each = each } where
+  each : (p : Pool) (moment : ℕ) (e : PoolEntry) → Sound p → MayStand p moment e → told generation_by (generation_by p.generation e) (owes p e) ≡ (after p moment e).generation
   each p moment Ready s m = refl
   each p moment Clear s m = refl
-  each p moment Shut s m = told-shuts clears p.generation p.available (λ y c r. refl)
+  each p moment Shut s m = told-shuts generation_by p.generation p.available (λ y c r. refl)
   each p moment (Entered number) s m = refl
   each p moment (Left number) s m = refl
   each p moment (Lent number conn) s m = refl
@@ -80,26 +80,26 @@ Tells-clears = record { each = each } where
   each p moment (NotLent number (Cleared g)) s m = refl
   each p moment (NotLent number Late) s m = refl
   each p moment (NotLent number (Lost conn)) s m = refl
-  each p moment (CheckedIn number conn errored) s m = told-owes_shut clears p.generation p errored (held_of conn p.lent) (λ y c r. refl)
+  each p moment (CheckedIn number conn errored) s m = told-owes_shut generation_by p.generation p errored (held_of conn p.lent) (λ y c r. refl)
   each p moment (ConnShut conn reason) s m = refl
 
 -- the state
-opens-Ready : (s : PoolState) → is_paused s ≡ true → cond (is_closed s) state_of.Closed state_of.Ready ≡ state_of.Ready
-opens-Ready state_of.Paused e = refl
-opens-Ready state_of.Ready e = refl
-opens-Ready state_of.Closed e = absurd (cc)
+state_by-Ready : (s : PoolState) → is_paused s ≡ true → cond (is_closed s) state_of.Closed state_of.Ready ≡ state_of.Ready
+state_by-Ready state_of.Paused e = refl
+state_by-Ready state_of.Ready e = refl
+state_by-Ready state_of.Closed e = absurd (cc)
 
-opens-Clear : (s : PoolState) → cond (is_closed s) state_of.Closed state_of.Paused ≡ cleared_state s
-opens-Clear state_of.Paused = refl
-opens-Clear state_of.Ready = refl
-opens-Clear state_of.Closed = refl
+state_by-Clear : (s : PoolState) → cond (is_closed s) state_of.Closed state_of.Paused ≡ cleared_state s
+state_by-Clear state_of.Paused = refl
+state_by-Clear state_of.Ready = refl
+state_by-Clear state_of.Closed = refl
 
-pub Tells-opens : Tells (λ p. p.state) opens
-Tells-opens = record { each = each } where
-  each : (p : Pool) (moment : ℕ) (e : PoolEntry) → Sound p → MayStand p moment e → told opens (opens p.state e) (owes p e) ≡ (after p moment e).state
-  each p moment Ready s m = opens-Ready p.state m
-  each p moment Clear s m = opens-Clear p.state
-  each p moment Shut s m = told-shuts opens state_of.Closed p.available (λ y c r. refl)
+pub Tells-state_by : Tells (λ p. p.state) state_by
+Tells-state_by = record { each = each } where
+  each : (p : Pool) (moment : ℕ) (e : PoolEntry) → Sound p → MayStand p moment e → told state_by (state_by p.state e) (owes p e) ≡ (after p moment e).state
+  each p moment Ready s m = state_by-Ready p.state m
+  each p moment Clear s m = state_by-Clear p.state
+  each p moment Shut s m = told-shuts state_by state_of.Closed p.available (λ y c r. refl)
   each p moment (Entered number) s m = refl
   each p moment (Left number) s m = refl
   each p moment (Lent number conn) s m = refl
@@ -110,7 +110,7 @@ Tells-opens = record { each = each } where
   each p moment (NotLent number (Cleared g)) s m = refl
   each p moment (NotLent number Late) s m = refl
   each p moment (NotLent number (Lost conn)) s m = refl
-  each p moment (CheckedIn number conn errored) s m = told-owes_shut opens p.state p errored (held_of conn p.lent) (λ y c r. refl)
+  each p moment (CheckedIn number conn errored) s m = told-owes_shut state_by p.state p errored (held_of conn p.lent) (λ y c r. refl)
   each p moment (ConnShut conn reason) s m = refl
 
 -- lists of numbers behind a change of what they are the numbers of
@@ -146,12 +146,12 @@ not_waiting p number conn h s e n =
     let dials = times-found_by (λ (x : Held). eqb x.conn conn) (λ (x : Held). eqb x.ticket number) p.pending h e (eq-eqb _ _ (sym n)) in
     omega (arith, s.one_place number)
 
-pub Tells-waits : Tells (λ p. numbers_of p.waiting) waits
-Tells-waits = record { each = each } where
-  each : (p : Pool) (moment : ℕ) (e : PoolEntry) → Sound p → MayStand p moment e → told waits (waits (numbers_of p.waiting) e) (owes p e) ≡ numbers_of (after p moment e).waiting
+pub Tells-waiting_by : Tells (λ p. numbers_of p.waiting) waiting_by
+Tells-waiting_by = record { each = each } where
+  each : (p : Pool) (moment : ℕ) (e : PoolEntry) → Sound p → MayStand p moment e → told waiting_by (waiting_by (numbers_of p.waiting) e) (owes p e) ≡ numbers_of (after p moment e).waiting
   each p moment Ready s m = refl
   each p moment Clear s m = refl
-  each p moment Shut s m = told-shuts waits (numbers_of p.waiting) p.available (λ y c r. refl)
+  each p moment Shut s m = told-shuts waiting_by (numbers_of p.waiting) p.available (λ y c r. refl)
   each p moment (Entered number) s m = rw m (sym (map-push (λ (t : Ticket). t.number) p.waiting (ticket_for p moment)))
   each p moment (Left number) s m = sym (numbers_of-without_ticket number p.waiting)
   each p moment (Lent number conn) s m = sym (numbers_of-without_ticket number p.waiting)
@@ -162,7 +162,7 @@ Tells-waits = record { each = each } where
   each p moment (NotLent number (Cleared g)) s m = sym (numbers_of-without_ticket number p.waiting)
   each p moment (NotLent number Late) s m = sym (numbers_of-without_ticket number p.waiting)
   each p moment (NotLent number (Lost conn)) s m = without-absent (λ (t : Ticket). t.number) number p.waiting (not_waiting p number conn m.0 s m.1 m.2)
-  each p moment (CheckedIn number conn errored) s m = told-owes_shut waits (numbers_of p.waiting) p errored (held_of conn p.lent) (λ y c r. refl)
+  each p moment (CheckedIn number conn errored) s m = told-owes_shut waiting_by (numbers_of p.waiting) p errored (held_of conn p.lent) (λ y c r. refl)
   each p moment (ConnShut conn reason) s m = refl
 
 -- a connection that is checked in and not kept must be shut
@@ -192,11 +192,11 @@ without-twice k (n ∷ ns) =
 
 -- what must be shut as the pool is closed is not among others
 told-shuts_pends : (xs : List Available) (hs : List Held) → ((k : ℕ) → 1 ≤ times_available k xs → times_held k hs ≡ 0) →
-    told pends (conns_of hs) (map (λ a. ConnShut a.conn PoolClosed) xs) ≡ conns_of hs
+    told pending_by (conns_of hs) (map (λ a. ConnShut a.conn PoolClosed) xs) ≡ conns_of hs
 told-shuts_pends [] hs h = refl
 told-shuts_pends (a ∷ xs) hs h =
     let here : 1 ≤ times_available a.conn (a ∷ xs) = times-at (λ (x : Available). eqb x.conn a.conn) (a ∷ xs) 0 a refl (eq-eqb _ _ refl) in
-    ap (λ ns. told pends ns (map (λ b. ConnShut b.conn PoolClosed) xs)) (without-absent (λ (x : Held). x.conn) a.conn hs (h a.conn here))
+    ap (λ ns. told pending_by ns (map (λ b. ConnShut b.conn PoolClosed) xs)) (without-absent (λ (x : Held). x.conn) a.conn hs (h a.conn here))
     ∙ told-shuts_pends xs hs (λ k l. h k (omega arith))
 
 -- a pending connection is neither lent nor available, and so on
@@ -213,9 +213,9 @@ only_available : (p : Pool) (conn k : ℕ) (a : Available) → Sound p → slice
 only_available p conn k a s e n =
     let there = times-at (λ (x : Available). eqb x.conn conn) p.available k a e (eq-eqb _ _ (sym n)) in omega (arith, s.once conn)
 
-pub Tells-pends : Tells (λ p. conns_of p.pending) pends
-Tells-pends = record { each = each } where
-  each : (p : Pool) (moment : ℕ) (e : PoolEntry) → Sound p → MayStand p moment e → told pends (pends (conns_of p.pending) e) (owes p e) ≡ conns_of (after p moment e).pending
+pub Tells-pending_by : Tells (λ p. conns_of p.pending) pending_by
+Tells-pending_by = record { each = each } where
+  each : (p : Pool) (moment : ℕ) (e : PoolEntry) → Sound p → MayStand p moment e → told pending_by (pending_by (conns_of p.pending) e) (owes p e) ≡ conns_of (after p moment e).pending
   each p moment Ready s m = refl
   each p moment Clear s m = refl
   each p moment Shut s m = told-shuts_pends p.available p.pending (λ k l. omega (arith, s.once k))
@@ -230,7 +230,7 @@ Tells-pends = record { each = each } where
   each p moment (NotLent number Late) s m = refl
   each p moment (NotLent number (Lost conn)) s m = sym (map-without (λ (h : Held). h.conn) conn p.pending)
   each p moment (CheckedIn number conn errored) s m =
-      told-owes_shut_of pends (conns_of p.pending) (conns_of p.pending) p errored (held_of conn p.lent) m.0 m.1 (λ _. refl)
+      told-owes_shut_of pending_by (conns_of p.pending) (conns_of p.pending) p errored (held_of conn p.lent) m.0 m.1 (λ _. refl)
       (λ _. without-absent (λ (h : Held). h.conn) m.0.conn p.pending (rw (conn-found conn p.lent m.0 m.1) (only_lent p conn m.0 s m.1).0))
   each p moment (ConnShut conn reason) s m = without-absent (λ (h : Held). h.conn) conn p.pending (only_available p conn m.1 m.0 s m.2 m.4)
 
@@ -262,12 +262,12 @@ pairs-settled : (number conn : ℕ) (ps hs : List Held) (h : Held) → held_of c
 pairs-settled number conn ps hs h e n =
     rw (e, n, ← conn-found conn ps h e) (sym (map-push (λ (x : Held). record { ticket = x.ticket; conn = x.conn }) hs h))
 
-pub Tells-lends : Tells (λ p. pairs_of p.lent) lends
-Tells-lends = record { each = each } where
-  each : (p : Pool) (moment : ℕ) (e : PoolEntry) → Sound p → MayStand p moment e → told lends (lends (pairs_of p.lent) e) (owes p e) ≡ pairs_of (after p moment e).lent
+pub Tells-lent_by : Tells (λ p. pairs_of p.lent) lent_by
+Tells-lent_by = record { each = each } where
+  each : (p : Pool) (moment : ℕ) (e : PoolEntry) → Sound p → MayStand p moment e → told lent_by (lent_by (pairs_of p.lent) e) (owes p e) ≡ pairs_of (after p moment e).lent
   each p moment Ready s m = refl
   each p moment Clear s m = refl
-  each p moment Shut s m = told-shuts lends (pairs_of p.lent) p.available (λ y c r. refl)
+  each p moment Shut s m = told-shuts lent_by (pairs_of p.lent) p.available (λ y c r. refl)
   each p moment (Entered number) s m = refl
   each p moment (Left number) s m = refl
   each p moment (Lent number conn) s m = pairs-lent number conn p.available p.lent m.3
@@ -279,7 +279,7 @@ Tells-lends = record { each = each } where
   each p moment (NotLent number Late) s m = refl
   each p moment (NotLent number (Lost conn)) s m = refl
   each p moment (CheckedIn number conn errored) s m =
-      told-owes_shut lends _ p errored (held_of conn p.lent) (λ y c r. refl) ∙ sym (map-filter (λ (h : Held). record { ticket = h.ticket; conn = h.conn }) (λ (q : Pair). not (eqb q.conn conn)) p.lent)
+      told-owes_shut lent_by _ p errored (held_of conn p.lent) (λ y c r. refl) ∙ sym (map-filter (λ (h : Held). record { ticket = h.ticket; conn = h.conn }) (λ (q : Pair). not (eqb q.conn conn)) p.lent)
   each p moment (ConnShut conn reason) s m = refl
 
 -- the last one taken out by its number, where it stands once
@@ -305,14 +305,14 @@ filter-last (y ∷ ys) a conn e c m =
 
 -- each available connection is shut as the pool is closed
 told-shuts_frees : (xs : List Available) → ((k : ℕ) → times_available k xs ≤ 1) →
-    told frees (free_of xs) (map (λ a. ConnShut a.conn PoolClosed) xs) ≡ []
+    told available_by (free_of xs) (map (λ a. ConnShut a.conn PoolClosed) xs) ≡ []
 told-shuts_frees [] h = refl
 told-shuts_frees (a ∷ xs) h =
     let same = eq-eqb a.conn a.conn refl in
     let here : cond (eqb a.conn a.conn) 1 0 + times_available a.conn xs ≤ 1 = h a.conn in
     let one : 1 + times_available a.conn xs ≤ 1 = rw same at here in
     let shut : without_number a.conn (free_of (a ∷ xs)) ≡ free_of xs = rw same (without-absent (λ (x : Available). x.conn) a.conn xs (omega (arith, one))) in
-    ap (λ ns. told frees ns (map (λ b. ConnShut b.conn PoolClosed) xs)) shut
+    ap (λ ns. told available_by ns (map (λ b. ConnShut b.conn PoolClosed) xs)) shut
     ∙ told-shuts_frees xs (λ k. let most : cond (eqb a.conn k) 1 0 + times_available k xs ≤ 1 = h k in omega (arith, most))
 
 without-pushed : (k : ℕ) (ns : List ℕ) → without_number k (ns ++ k ∷ []) ≡ without_number k ns
@@ -324,19 +324,19 @@ without-pushed k (n ∷ ns) =
     ]
 
 -- a connection that comes back is available where it is kept
-frees-checked_in : (p : Pool) (moment conn : ℕ) (errored : Bool) (h : Held) → held_of conn p.lent ≡ Some h → times_available conn p.available ≡ 0 →
-    told frees (free_of p.available ++ conn ∷ []) (owes_shut p errored (held_of conn p.lent)) ≡ free_of (p.available ++ returned p moment errored (held_of conn p.lent))
-frees-checked_in p moment conn errored h e none =
+available_by-checked_in : (p : Pool) (moment conn : ℕ) (errored : Bool) (h : Held) → held_of conn p.lent ≡ Some h → times_available conn p.available ≡ 0 →
+    told available_by (free_of p.available ++ conn ∷ []) (owes_shut p errored (held_of conn p.lent)) ≡ free_of (p.available ++ returned p moment errored (held_of conn p.lent))
+available_by-checked_in p moment conn errored h e none =
     let number = conn-found conn p.lent h e in
     let back : Available = record { conn = h.conn; generation = h.generation; since = moment } in
-    rw e (elim (is_kept p errored h) as (λ b. told frees (free_of p.available ++ conn ∷ []) (cond b [] (ConnShut h.conn (shut_reason p errored) ∷ [])) ≡ free_of (p.available ++ cond b (back ∷ []) [])) [
+    rw e (elim (is_kept p errored h) as (λ b. told available_by (free_of p.available ++ conn ∷ []) (cond b [] (ConnShut h.conn (shut_reason p errored) ∷ [])) ≡ free_of (p.available ++ cond b (back ∷ []) [])) [
       | true ↦ rw (← number) (sym (map-push (λ (a : Available). a.conn) p.available back))
       | false ↦ rw (number, append-nil) (without-pushed conn (free_of p.available) ∙ without-absent (λ (a : Available). a.conn) conn p.available none)
     ])
 
-pub Tells-frees : Tells (λ p. free_of p.available) frees
-Tells-frees = record { each = each } where
-  each : (p : Pool) (moment : ℕ) (e : PoolEntry) → Sound p → MayStand p moment e → told frees (frees (free_of p.available) e) (owes p e) ≡ free_of (after p moment e).available
+pub Tells-available_by : Tells (λ p. free_of p.available) available_by
+Tells-available_by = record { each = each } where
+  each : (p : Pool) (moment : ℕ) (e : PoolEntry) → Sound p → MayStand p moment e → told available_by (available_by (free_of p.available) e) (owes p e) ≡ free_of (after p moment e).available
   each p moment Ready s m = refl
   each p moment Clear s m = refl
   each p moment Shut s m = told-shuts_frees p.available (λ k. omega (arith, s.once k))
@@ -352,5 +352,5 @@ Tells-frees = record { each = each } where
   each p moment (NotLent number (Cleared g)) s m = refl
   each p moment (NotLent number Late) s m = refl
   each p moment (NotLent number (Lost conn)) s m = without-absent (λ (a : Available). a.conn) conn p.available (only_pending p conn m.0 s m.1)
-  each p moment (CheckedIn number conn errored) s m = frees-checked_in p moment conn errored m.0 m.1 (only_lent p conn m.0 s m.1).1
+  each p moment (CheckedIn number conn errored) s m = available_by-checked_in p moment conn errored m.0 m.1 (only_lent p conn m.0 s m.1).1
   each p moment (ConnShut conn reason) s m = sym (map-without (λ (a : Available). a.conn) conn p.available)

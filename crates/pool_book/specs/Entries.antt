@@ -12,11 +12,11 @@ use Rattle.pool_book.specs.Pool.{Pool, is_paused, is_closed, ticket_of, without_
 
 -- Why a ticket has no connection (CMAP, ConnectionCheckOutFailedEvent: poolClosed, connectionError for a cleared pool,
 -- timeout, connectionError for a connection that was lost as it was dialled).
-pub data WhyNot : Type 0 where
-  Closed : WhyNot
-  Cleared : (g : ℕ) → WhyNot
-  Late : WhyNot
-  Lost : (conn : ℕ) → WhyNot
+pub data CheckOutFailure : Type 0 where
+  Closed : CheckOutFailure
+  Cleared : (g : ℕ) → CheckOutFailure
+  Late : CheckOutFailure
+  Lost : (conn : ℕ) → CheckOutFailure
 
 -- What happens in a pool (CMAP, Events).
 pub data PoolEntry : Type 0 where
@@ -28,7 +28,7 @@ pub data PoolEntry : Type 0 where
   Lent : (number conn : ℕ) → PoolEntry  -- a ticket's owner gets a connection
   Dialled : (number conn : ℕ) → PoolEntry  -- a ticket's owner dials a connection
   Settled : (number conn : ℕ) (stale : Bool) → PoolEntry  -- the dialled connection is established
-  NotLent : (number : ℕ) (why : WhyNot) → PoolEntry  -- a ticket's owner gets none
+  NotLent : (number : ℕ) (why : CheckOutFailure) → PoolEntry  -- a ticket's owner gets none
   CheckedIn : (number conn : ℕ) (errored : Bool) → PoolEntry  -- a ticket's owner gives it back
   ConnShut : (conn : ℕ) (reason : CloseReason) → PoolEntry  -- a connection is shut
 
@@ -86,7 +86,7 @@ after p moment (CheckedIn number conn errored) = record p {
 after p moment (ConnShut conn reason) = record p { available = without_available conn p.available }
 
 -- Why the owner of a connection that settled stale has none (CMAP, PoolClearedError).
-abbrev pub refusal : Pool → WhyNot
+abbrev pub refusal : Pool → CheckOutFailure
 refusal p = if is_closed p.state then Closed else Cleared p.generation
 
 -- What must follow a check-in: the connection is shut where it is not kept (CMAP, Checking In a Connection).
@@ -109,7 +109,7 @@ owes p _ = []
 -- A ticket may be refused so: where the pool is closed, as closed; else where it is cleared for the ticket, as cleared,
 -- with the pool's generation; else as late, where it could neither have a connection nor dial one (CMAP, Checking Out a
 -- Connection).
-abbrev pub MayRefuse : Pool → ℕ → Ticket → WhyNot → Type 0
+abbrev pub MayRefuse : Pool → ℕ → Ticket → CheckOutFailure → Type 0
 MayRefuse p moment t Closed = is_closed p.state ≡ true
 MayRefuse p moment t (Cleared g) = (is_closed p.state ≡ false) × (is_cleared p t ≡ true) × (g ≡ p.generation)
 MayRefuse p moment t Late =

@@ -14,40 +14,40 @@ told says x [] = x
 told says x (e ∷ es) = told says (says x e) es
 
 -- The generation is the number of clears (CMAP, Clearing a Connection Pool).
-abbrev pub clears : ℕ → PoolEntry → ℕ
-clears g Clear = g + 1
-clears g e = g
+abbrev pub generation_by : ℕ → PoolEntry → ℕ
+generation_by g Clear = g + 1
+generation_by g e = g
 
 -- A pool is closed once it was closed; else ready where it was made ready since its last clear; else paused (CMAP,
 -- Connection Pool).
-abbrev pub opens : PoolState → PoolEntry → PoolState
-opens s Ready = if is_closed s then state_of.Closed else state_of.Ready
-opens s Clear = if is_closed s then state_of.Closed else state_of.Paused
-opens s Shut = state_of.Closed
-opens s e = s
+abbrev pub state_by : PoolState → PoolEntry → PoolState
+state_by s Ready = if is_closed s then state_of.Closed else state_of.Ready
+state_by s Clear = if is_closed s then state_of.Closed else state_of.Paused
+state_by s Shut = state_of.Closed
+state_by s e = s
 
 -- Those wait that entered and since neither got nor dialled a connection, nor got none, nor left (CMAP, WaitQueue).
-abbrev pub waits : List ℕ → PoolEntry → List ℕ
-waits ns (Entered number) = ns ++ number ∷ []
-waits ns (Left number) = without_number number ns
-waits ns (Lent number conn) = without_number number ns
-waits ns (Dialled number conn) = without_number number ns
-waits ns (NotLent number why) = without_number number ns
-waits ns e = ns
+abbrev pub waiting_by : List ℕ → PoolEntry → List ℕ
+waiting_by ns (Entered number) = ns ++ number ∷ []
+waiting_by ns (Left number) = without_number number ns
+waiting_by ns (Lent number conn) = without_number number ns
+waiting_by ns (Dialled number conn) = without_number number ns
+waiting_by ns (NotLent number why) = without_number number ns
+waiting_by ns e = ns
 
 -- Those are pending that were dialled and since neither settled nor shut (CMAP, Establishing a Connection).
-abbrev pub pends : List ℕ → PoolEntry → List ℕ
-pends cs (Dialled number conn) = cs ++ conn ∷ []
-pends cs (Settled number conn stale) = without_number conn cs
-pends cs (ConnShut conn reason) = without_number conn cs
-pends cs e = cs
+abbrev pub pending_by : List ℕ → PoolEntry → List ℕ
+pending_by cs (Dialled number conn) = cs ++ conn ∷ []
+pending_by cs (Settled number conn stale) = without_number conn cs
+pending_by cs (ConnShut conn reason) = without_number conn cs
+pending_by cs e = cs
 
 -- Those are available that were checked in and since neither lent nor shut (CMAP, Checking In a Connection).
-abbrev pub frees : List ℕ → PoolEntry → List ℕ
-frees cs (CheckedIn number conn errored) = cs ++ conn ∷ []
-frees cs (Lent number conn) = without_number conn cs
-frees cs (ConnShut conn reason) = without_number conn cs
-frees cs e = cs
+abbrev pub available_by : List ℕ → PoolEntry → List ℕ
+available_by cs (CheckedIn number conn errored) = cs ++ conn ∷ []
+available_by cs (Lent number conn) = without_number conn cs
+available_by cs (ConnShut conn reason) = without_number conn cs
+available_by cs e = cs
 
 -- A ticket and the connection that it is lent (CMAP, Checking Out a Connection).
 pub record Pair : Type 0 where
@@ -56,10 +56,10 @@ pub record Pair : Type 0 where
 
 -- Those pairs are lent that were lent and of which the connection was not checked in since (CMAP, Checking Out a
 -- Connection, Checking In a Connection).
-abbrev pub lends : List Pair → PoolEntry → List Pair
-lends ps (Lent number conn) = ps ++ record { ticket = number; conn = conn } ∷ []
-lends ps (CheckedIn number conn errored) = filter (λ q. not (q.conn == conn)) ps
-lends ps e = ps
+abbrev pub lent_by : List Pair → PoolEntry → List Pair
+lent_by ps (Lent number conn) = ps ++ record { ticket = number; conn = conn } ∷ []
+lent_by ps (CheckedIn number conn errored) = filter (λ q. not (q.conn == conn)) ps
+lent_by ps e = ps
 
 -- The same of the connections that a pool holds (own).
 abbrev pub conns_of : List Held → List ℕ
@@ -81,7 +81,7 @@ pub record Dials : Type 0 where
   pub now : ℕ
   pub born : List Born
 
-abbrev pub bears : Dials → PoolEntry → Dials
-bears d Clear = record d { now = d.now + 1 }
-bears d (Dialled number conn) = record d { born = d.born ++ record { conn = conn; generation = d.now } ∷ [] }
-bears d e = d
+abbrev pub dials_by : Dials → PoolEntry → Dials
+dials_by d Clear = record d { now = d.now + 1 }
+dials_by d (Dialled number conn) = record d { born = d.born ++ record { conn = conn; generation = d.now } ∷ [] }
+dials_by d e = d

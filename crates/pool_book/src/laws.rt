@@ -10,7 +10,7 @@ ghost use Rattle.pool_book.specs.Entries as entry;
 ghost use Rattle.pool_book.specs.Entries.{PoolEntry, Goes};
 ghost use Rattle.pool_book.specs.Judge.{Timed, Stands, IsTrail, place_behind, entries_of, said, timed, group, LeadsTo};
 ghost use Rattle.pool_book.specs.Sound.{times_of, times_in};
-ghost use Rattle.pool_book.specs.Told.{told, clears, opens, waits, pends, frees, lends, conns_of, pairs_of, free_of};
+ghost use Rattle.pool_book.specs.Told.{told, generation_by, state_by, waiting_by, pending_by, available_by, lent_by, conns_of, pairs_of, free_of};
 ghost use Rattle.pool_book.specs.Laws.{serves, IsFree};
 
 use crate::PoolState;
@@ -35,17 +35,17 @@ pub fn each_entry_may_stand()
 /// which connections were checked in and since neither lent nor shut.
 pub fn entries_tell_the_pool()
     ensures generation { (rules : PoolRules) (ts : List Timed) → IsTrail rules ts
-        → told clears 0 (said rules ts) ≡ (place_behind rules ts).pool.generation }
+        → told generation_by 0 (said rules ts) ≡ (place_behind rules ts).pool.generation }
     ensures state { (rules : PoolRules) (ts : List Timed) → IsTrail rules ts
-        → told opens PoolState.Paused (said rules ts) ≡ (place_behind rules ts).pool.state }
+        → told state_by PoolState.Paused (said rules ts) ≡ (place_behind rules ts).pool.state }
     ensures waiting { (rules : PoolRules) (ts : List Timed) → IsTrail rules ts
-        → told waits [] (said rules ts) ≡ numbers_of (place_behind rules ts).pool.waiting }
+        → told waiting_by [] (said rules ts) ≡ numbers_of (place_behind rules ts).pool.waiting }
     ensures pending { (rules : PoolRules) (ts : List Timed) → IsTrail rules ts
-        → told pends [] (said rules ts) ≡ conns_of (place_behind rules ts).pool.pending }
+        → told pending_by [] (said rules ts) ≡ conns_of (place_behind rules ts).pool.pending }
     ensures lent { (rules : PoolRules) (ts : List Timed) → IsTrail rules ts
-        → told lends [] (said rules ts) ≡ pairs_of (place_behind rules ts).pool.lent }
+        → told lent_by [] (said rules ts) ≡ pairs_of (place_behind rules ts).pool.lent }
     ensures available { (rules : PoolRules) (ts : List Timed) → IsTrail rules ts
-        → told frees [] (said rules ts) ≡ free_of (place_behind rules ts).pool.available }
+        → told available_by [] (said rules ts) ≡ free_of (place_behind rules ts).pool.available }
 {}
 
 /// A connection stands at most once among the pending, the lent and the available ones.
@@ -78,5 +78,5 @@ pub fn each_lent_connection_was_free()
 pub fn no_ticket_is_served_after_a_clear()
     ensures { (rules : PoolRules) (before : List Timed) (moment : ℕ) (between : List Timed) (last : Timed) (number : ℕ)
         → IsTrail rules (before ++ record { at = moment; what = entry.Clear } ∷ (between ++ last ∷ []))
-        → is_among (told waits [] (entries_of before)) number ≡ true → serves number last.what ≡ false }
+        → is_among (told waiting_by [] (entries_of before)) number ≡ true → serves number last.what ≡ false }
 {}

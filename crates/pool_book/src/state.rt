@@ -1,4 +1,4 @@
-/// A pool's state (CMAP, Connection Pool).
+/// A pool's state (CMAP, Connection Pool). The diagram of its changes stands on [`PoolBook`](crate::PoolBook).
 #[derive(Clone, Copy, Debug, PartialEq, Eq)]
 pub enum PoolState {
     /// Gives out no connection until it is made ready.

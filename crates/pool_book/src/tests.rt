@@ -32,63 +32,45 @@ enum Call {
 #[derive(Clone, Copy, Debug, PartialEq, Eq)]
 enum Answer {
     Done,
-    Ticket(Ticket),
+    Ticket(u64, u64, u64),
+    Memory,
     Nothing,
     Swept(u64, CloseReason),
-    Take(Take),
-    Settled(Settled),
-    Fate(Fate),
+    Lent(u64),
+    Dial(u64),
+    Wait,
+    Cleared(u64),
+    Closed,
+    Late,
+    Established,
+    Stale(u64),
+    Kept,
+    Shut(CloseReason),
     State(PoolState),
     Number(u64),
 }
 
-const DONE: Answer = Answer::Done;
+/// A name, the rules `max_size`, `max_connecting`, `idle_micros` and `wait_micros`, and calls with their answers.
+type Run = (
+    &'static str,
+    (u32, u32, u64, u64),
+    &'static [(Call, Answer)],
+);
 
-const WAIT: Answer = Answer::Take(Take::Wait);
-
-const CLOSED: Answer = Answer::Take(Take::Closed);
-
-const LATE: Answer = Answer::Take(Take::Late);
-
-const ESTABLISHED: Answer = Answer::Settled(Settled::Lent);
-
-const KEPT: Answer = Answer::Fate(Fate::Kept);
-
-fn rules(max_size: u32, max_connecting: u32, idle_micros: u64, wait_micros: u64) -> PoolRules {
-    PoolRules {
-        max_size,
-        max_connecting,
-        idle_micros,
-        wait_micros,
+/// Makes each run's calls on a new pool and compares each answer.
+fn run_all(rt: &impl Abort, alloc: Global, runs: &[Run]) {
+    for (name, (max_size, max_connecting, idle_micros, wait_micros), calls) in runs
+        .iter()
+        .copied()
+    {
+        let rules = PoolRules {
+            max_size,
+            max_connecting,
+            idle_micros,
+            wait_micros,
+        };
+        run(rt, alloc, name, rules, calls);
     }
-}
-
-fn ticket(number: u64, generation: u64, entered: u64) -> Answer {
-    Answer::Ticket(Ticket {
-        number,
-        generation,
-        entered,
-    })
-}
-
-fn dial(conn: u64) -> Answer {
-    Answer::Take(Take::Dial { conn })
-}
-
-fn lent(conn: u64) -> Answer {
-    Answer::Take(Take::Lent { conn })
-}
-
-fn cleared(generation: u64) -> Answer {
-    Answer::Take(Take::Cleared { generation })
-}
-
-fn stale(generation: u64) -> Answer {
-    Answer::Settled(Settled::Stale { generation })
-}
-
-fn shut(reason: CloseReason) -> Answer {
-    Answer::Fate(Fate::Shut(reason))
 }
 
 /// The ticket of this number; a book knows tickets by their numbers.
@@ -129,7 +111,10 @@ fn called(rt: &impl Abort, book: &mut PoolBook, call: Call) -> Answer {
         Call::Take(number, moment) => return taken(rt, book, number, moment),
         Call::Established(conn) => {
             assert!(rt; book.is_pending(conn));
-            return Answer::Settled(book.established(conn));
+            return match book.established(conn) {
+                Settled::Lent => Answer::Established,
+                Settled::Stale { generation } => Answer::Stale(generation),
+            };
         }
         Call::CheckIn(conn, moment) => return checked_in(rt, book, conn, moment, false),
         Call::CheckInErrored(conn, moment) => return checked_in(rt, book, conn, moment, true),
@@ -143,8 +128,8 @@ fn called(rt: &impl Abort, book: &mut PoolBook, call: Call) -> Answer {
 fn entered(rt: &impl Abort, book: &mut PoolBook, moment: u64) -> Answer {
     assert!(rt; book.entered() < u64::MAX);
     match book.enter(moment) {
-        Ok(ticket) => Answer::Ticket(ticket),
-        Err(_) => Answer::Nothing,
+        Ok(ticket) => Answer::Ticket(ticket.number, ticket.generation, ticket.entered),
+        Err(_) => Answer::Memory,
     }
 }
 
@@ -163,7 +148,14 @@ fn taken(rt: &impl Abort, book: &mut PoolBook, number: u64, moment: u64) -> Answ
     assert!(rt; book.is_waiting(&ticket));
     let take = book.try_take(&ticket, moment);
     assert_eq!(rt; book.is_waiting(&ticket), take == Take::Wait);
-    Answer::Take(take)
+    match take {
+        Take::Lent { conn } => Answer::Lent(conn),
+        Take::Dial { conn } => Answer::Dial(conn),
+        Take::Wait => Answer::Wait,
+        Take::Cleared { generation } => Answer::Cleared(generation),
+        Take::Closed => Answer::Closed,
+        Take::Late => Answer::Late,
+    }
 }
 
 fn checked_in(
@@ -176,5 +168,22 @@ fn checked_in(
     assert!(rt; book.is_lent(conn));
     let fate = book.check_in(conn, moment, errored);
     assert!(rt; !book.is_lent(conn));
-    Answer::Fate(fate)
+    match fate {
+        Fate::Kept => Answer::Kept,
+        Fate::Shut(reason) => Answer::Shut(reason),
+    }
 }
+
+/// A book may be moved to another thread.
+#[test]
+fn is_sent(rt: HostRuntime) {
+    let rules = PoolRules {
+        max_size: 1,
+        max_connecting: 1,
+        idle_micros: 0,
+        wait_micros: 0,
+    };
+    sent(PoolBook::new(rt.alloc(), rules));
+}
+
+fn sent<T: Send + Drop>(_value: T) {}

@@ -1,4 +1,4 @@
-ghost use Rattle.std.specs.Prelude.{◌≡◌, ℕ, ◌+◌, ◌-◌, ◌^◌, ◌<◌, ◌≤◌, ◌==◌, true, not, if◌then◌else◌, length, find, Some, None, IfOk, IfSome, IfNone, IsSome, OnOk, OnErr};
+ghost use Rattle.std.specs.Prelude.{◌≡◌, ℕ, ◌+◌, ◌-◌, ◌^◌, ◌<◌, ◌≤◌, ◌==◌, true, not, if◌then◌else◌, length, find, Some, None, IfOk, IfSome, IfNone, IsSome, OnSome, OnOk, OnErr};
 ghost use Rattle.pool_book.specs.declared.ticket.Ticket.{Ticket};
 ghost use Rattle.pool_book.specs.Pool.{Pool, ticket_of, without_ticket, is_swept, is_perished, has_place};
 ghost use Rattle.pool_book.specs.Entries as entry;
@@ -43,6 +43,7 @@ impl PoolBook {
         ensures answer { result ≡ swept_answer self.old moment }
         ensures some { IfSome result (λ s. Goes self.old moment (entry.ConnShut s.conn s.reason) self.new) }
         ensures none { IfNone result ((is_swept self.old moment ≡ true) × (self.new ≡ self.old)) }
+        ensures fewer { OnSome result (length self.new.available + 1 ≤ length self.old.available) }
     {
         let perished = self.first_perished(moment)?;
         self.available.retain(|a| a.conn != perished.conn);

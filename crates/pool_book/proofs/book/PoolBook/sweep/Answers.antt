@@ -1,11 +1,12 @@
 -- What is found is perished, and what remains is the filter by the closure's test.
-use Rattle.std.proofs.Common.{◌≡◌, not, eqb, true, rules, refl, sym, ◌∙◌}
+use Rattle.std.proofs.Common.{◌≡◌, not, eqb, true, rules, refl, sym, ◌∙◌, ap, subst, length, ◌+◌, ◌≤◌}
 use Rattle.std.specs.List.{position_or_len}
 use Rattle.std.proofs.lemmas.Fn.{filter_same}
+use Rattle.std.proofs.lemmas.Bool.{eq-eqb}
 use Rattle.std.proofs.lemmas.List.Folds.{find_at}
 use Rattle.pool_book.specs.declared.connections.Available.{Available}
-use Rattle.pool_book.specs.Pool.{is_perished, is_swept}
-use Rattle.pool_book.proofs.ListLemmas.{IfNone-from, find-passes, list_any-not_found}
+use Rattle.pool_book.specs.Pool.{Pool, is_perished, is_swept}
+use Rattle.pool_book.proofs.ListLemmas.{IfNone-from, find-by, find-passes, length-filter_fewer, list_any-not_found}
 use Rattle.pool_book.proofs.book.PoolBook.sweep.Goals as goal
 
 pub returns-in_err-perished-clause-none : goal.returns-in_err-perished-clause-none
@@ -32,3 +33,13 @@ returns-clause-some c =
       );
       moves = rw (kept, ← c.self.view_is);
     }
+
+pub returns-clause-fewer : goal.returns-clause-fewer
+returns-clause-fewer c =
+    let p = c.args.self.now in
+    let a = c.in_ok-perished.perished in
+    let found = sym c.first_perished.ensures ∙ c.in_ok-perished.was in
+    let there = find-by (is_perished p c.args.moment) (λ (b : Available). eqb b.conn a.conn) p.available a found (eq-eqb a.conn a.conn refl) in
+    let kept = ap (λ (q : Pool). length q.available) (returns-clause-some c).moves in
+    let fewer = length-filter_fewer (λ (b : Available). eqb b.conn a.conn) p.available there in
+    subst (λ n. n + 1 ≤ length p.available) (sym kept) fewer

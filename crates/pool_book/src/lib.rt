@@ -10,10 +10,11 @@
 //! 3. [`PoolBook::sweep`] until it answers `None`, then [`PoolBook::try_take`], again and again while it answers
 //!    [`Take::Wait`].
 //! 4. After [`Take::Dial`]: [`PoolBook::established`] or [`PoolBook::lost`].
-//! 5. [`PoolBook::check_in`] of each connection that was lent.
+//! 5. [`PoolBook::check_in`] of each connection that was lent; [`PoolBook::leave`] of a ticket that waits no more.
 //!
 //! What a pool is, when each of these may happen and what it leaves is defined once, in `specs/`, as a judge over the
-//! pool's entries; each call moves the pool by one entry that may stand there.
+//! pool's entries; each call moves the pool by one entry that may stand there. [`laws`] has what follows for every list of
+//! entries.
 #![tactic(auto)]
 
 mod answers;

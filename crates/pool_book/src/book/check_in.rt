@@ -1,0 +1,80 @@
+ghost use Rattle.std.specs.Prelude.{◌≡◌, ℕ, ◌==◌, ◌||◌, not, if◌then◌else◌, Some, IsSome};
+ghost use Rattle.pool_book.specs.declared.connections.Held.{Held};
+ghost use Rattle.pool_book.specs.Pool.{Pool, held_of, is_closed, is_worthless};
+ghost use Rattle.pool_book.specs.Entries as entry;
+ghost use Rattle.pool_book.specs.Entries.{Goes};
+ghost use Rattle.pool_book.specs.Answers.{settled_answer, fate_answer};
+
+use crate::{Available, CloseReason, Fate, Held, PoolBook, PoolState, Settled};
+
+impl PoolBook {
+    /// A pending connection is established (CMAP, Establishing a Connection): whoever dialled it has it, or it is gone.
+    pub fn established(&mut self, conn: u64) -> Settled
+        requires { IsSome (held_of conn self.old.pending) }
+        ensures answer { (h : Held) → held_of conn self.old.pending ≡ Some h → result ≡ settled_answer self.old h }
+        ensures goes { (h : Held) → held_of conn self.old.pending ≡ Some h → (moment : ℕ)
+            → Goes self.old moment (entry.Settled h.ticket conn (is_worthless self.old h)) self.new }
+    {
+        let Some(held) = self.pending.take_out(conn) else {
+            unreachable!();
+        };
+        if is_worthless(self.state, self.generation, &held) {
+            return Settled::Stale {
+                generation: self.generation,
+            };
+        }
+        self.lent.put(held);
+        Settled::Lent
+    }
+
+    /// A pending connection came to nothing (CMAP, Establishing a Connection): it is gone, to be shut as `Errored`.
+    pub fn lost(&mut self, conn: u64)
+        requires { IsSome (held_of conn self.old.pending) }
+        ensures { (h : Held) → held_of conn self.old.pending ≡ Some h → (moment : ℕ)
+            → Goes self.old moment (entry.NotLent h.ticket (entry.Lost conn)) self.new }
+    {
+        self.pending.take_out(conn);
+    }
+
+    /// A lent connection comes back (CMAP, Checking In a Connection): it is available again, unless it failed, the pool
+    /// is closed or the pool was cleared since it was dialled.
+    pub fn check_in(&mut self, conn: u64, moment: u64, errored: bool) -> Fate
+        requires { IsSome (held_of conn self.old.lent) }
+        ensures answer { (h : Held) → held_of conn self.old.lent ≡ Some h → result ≡ fate_answer self.old errored h }
+        ensures goes { (h : Held) → held_of conn self.old.lent ≡ Some h
+            → Goes self.old moment (entry.CheckedIn h.ticket conn errored) self.new }
+    {
+        let Some(held) = self.lent.take_out(conn) else {
+            unreachable!();
+        };
+        if errored || is_worthless(self.state, self.generation, &held) {
+            return Fate::Shut(shut_reason(self.state, errored));
+        }
+        self.available.push_reserved(Available {
+            conn: held.conn,
+            generation: held.generation,
+            since: moment,
+        });
+        Fate::Kept
+    }
+}
+
+/// Whether a pending or lent connection is of no more use to a pool of this state and generation.
+fn is_worthless(state: PoolState, generation: u64, held: &Held) -> bool
+    ensures { result ≡ (is_closed state || not (held.now.generation == generation)) }
+{
+    state == PoolState::Closed || held.generation != generation
+}
+
+/// Why a connection that is not kept is shut.
+fn shut_reason(state: PoolState, errored: bool) -> CloseReason
+    ensures { result ≡ (if errored then CloseReason.Errored else (if is_closed state then CloseReason.PoolClosed else CloseReason.Stale)) }
+{
+    if errored {
+        CloseReason::Errored
+    } else if state == PoolState::Closed {
+        CloseReason::PoolClosed
+    } else {
+        CloseReason::Stale
+    }
+}

@@ -1,0 +1,178 @@
+//! Who is lent what, and who dials.
+use super::*;
+
+const RUNS: &[Run] = &[
+    (
+        "an available one comes ahead of a new one",
+        (5, 2, 0, 0),
+        &[
+            (Call::Ready, Answer::Done),
+            (Call::Enter(0), Answer::Ticket(0, 0, 0)),
+            (Call::Take(0, 0), Answer::Dial(1)),
+            (Call::Established(1), Answer::Established),
+            (Call::CheckIn(1, 1), Answer::Kept),
+            (Call::Enter(1), Answer::Ticket(1, 0, 1)),
+            (Call::Take(1, 1), Answer::Lent(1)),
+            (Call::Available, Answer::Number(0)),
+        ],
+    ),
+    (
+        "the one that was checked in last comes first",
+        (5, 2, 0, 0),
+        &[
+            (Call::Ready, Answer::Done),
+            (Call::Enter(0), Answer::Ticket(0, 0, 0)),
+            (Call::Enter(0), Answer::Ticket(1, 0, 0)),
+            (Call::Take(0, 0), Answer::Dial(1)),
+            (Call::Take(1, 0), Answer::Dial(2)),
+            (Call::Established(1), Answer::Established),
+            (Call::Established(2), Answer::Established),
+            (Call::CheckIn(1, 5), Answer::Kept),
+            (Call::CheckIn(2, 6), Answer::Kept),
+            (Call::Enter(7), Answer::Ticket(2, 0, 7)),
+            (Call::Enter(7), Answer::Ticket(3, 0, 7)),
+            (Call::Take(2, 7), Answer::Lent(2)),
+            (Call::Take(3, 7), Answer::Lent(1)),
+        ],
+    ),
+    (
+        "the same the other way round",
+        (5, 2, 0, 0),
+        &[
+            (Call::Ready, Answer::Done),
+            (Call::Enter(0), Answer::Ticket(0, 0, 0)),
+            (Call::Enter(0), Answer::Ticket(1, 0, 0)),
+            (Call::Take(0, 0), Answer::Dial(1)),
+            (Call::Take(1, 0), Answer::Dial(2)),
+            (Call::Established(2), Answer::Established),
+            (Call::Established(1), Answer::Established),
+            (Call::CheckIn(2, 5), Answer::Kept),
+            (Call::CheckIn(1, 6), Answer::Kept),
+            (Call::Enter(7), Answer::Ticket(2, 0, 7)),
+            (Call::Enter(7), Answer::Ticket(3, 0, 7)),
+            (Call::Take(2, 7), Answer::Lent(1)),
+            (Call::Take(3, 7), Answer::Lent(2)),
+        ],
+    ),
+    (
+        "one is pending of one that may be",
+        (5, 1, 0, 0),
+        &[
+            (Call::Ready, Answer::Done),
+            (Call::Enter(0), Answer::Ticket(0, 0, 0)),
+            (Call::Enter(0), Answer::Ticket(1, 0, 0)),
+            (Call::Take(0, 0), Answer::Dial(1)),
+            (Call::Take(1, 0), Answer::Wait),
+            (Call::Established(1), Answer::Established),
+            (Call::Take(1, 0), Answer::Dial(2)),
+        ],
+    ),
+    (
+        "a lost one leaves room to dial, and its number is not given again",
+        (5, 1, 0, 0),
+        &[
+            (Call::Ready, Answer::Done),
+            (Call::Enter(0), Answer::Ticket(0, 0, 0)),
+            (Call::Enter(0), Answer::Ticket(1, 0, 0)),
+            (Call::Take(0, 0), Answer::Dial(1)),
+            (Call::Take(1, 0), Answer::Wait),
+            (Call::Lost(1), Answer::Done),
+            (Call::Take(1, 0), Answer::Dial(2)),
+        ],
+    ),
+    (
+        "the greatest size counts pending and lent",
+        (2, 2, 0, 0),
+        &[
+            (Call::Ready, Answer::Done),
+            (Call::Enter(0), Answer::Ticket(0, 0, 0)),
+            (Call::Enter(0), Answer::Ticket(1, 0, 0)),
+            (Call::Enter(0), Answer::Ticket(2, 0, 0)),
+            (Call::Take(0, 0), Answer::Dial(1)),
+            (Call::Take(1, 0), Answer::Dial(2)),
+            (Call::Take(2, 0), Answer::Wait),
+            (Call::Established(1), Answer::Established),
+            (Call::Take(2, 0), Answer::Wait),
+            (Call::Established(2), Answer::Established),
+            (Call::Take(2, 0), Answer::Wait),
+            (
+                Call::CheckInErrored(1, 0),
+                Answer::Shut(CloseReason::Errored),
+            ),
+            (Call::Take(2, 0), Answer::Dial(3)),
+        ],
+    ),
+    (
+        "the greatest size is one",
+        (1, 1, 0, 0),
+        &[
+            (Call::Ready, Answer::Done),
+            (Call::Enter(0), Answer::Ticket(0, 0, 0)),
+            (Call::Take(0, 0), Answer::Dial(1)),
+            (Call::Enter(0), Answer::Ticket(1, 0, 0)),
+            (Call::Take(1, 0), Answer::Wait),
+            (Call::Established(1), Answer::Established),
+            (Call::Take(1, 0), Answer::Wait),
+            (Call::CheckIn(1, 1), Answer::Kept),
+            (Call::Take(1, 1), Answer::Lent(1)),
+        ],
+    ),
+    (
+        "an errored one is shut",
+        (5, 2, 0, 0),
+        &[
+            (Call::Ready, Answer::Done),
+            (Call::Enter(0), Answer::Ticket(0, 0, 0)),
+            (Call::Take(0, 0), Answer::Dial(1)),
+            (Call::Established(1), Answer::Established),
+            (
+                Call::CheckInErrored(1, 0),
+                Answer::Shut(CloseReason::Errored),
+            ),
+            (Call::Available, Answer::Number(0)),
+            (Call::Enter(0), Answer::Ticket(1, 0, 0)),
+            (Call::Take(1, 0), Answer::Dial(2)),
+        ],
+    ),
+    (
+        "errored comes ahead of closed and stale",
+        (5, 2, 0, 0),
+        &[
+            (Call::Ready, Answer::Done),
+            (Call::Enter(0), Answer::Ticket(0, 0, 0)),
+            (Call::Enter(0), Answer::Ticket(1, 0, 0)),
+            (Call::Take(0, 0), Answer::Dial(1)),
+            (Call::Take(1, 0), Answer::Dial(2)),
+            (Call::Established(1), Answer::Established),
+            (Call::Established(2), Answer::Established),
+            (Call::Clear, Answer::Done),
+            (
+                Call::CheckInErrored(1, 0),
+                Answer::Shut(CloseReason::Errored),
+            ),
+            (Call::Close, Answer::Done),
+            (
+                Call::CheckInErrored(2, 0),
+                Answer::Shut(CloseReason::Errored),
+            ),
+        ],
+    ),
+    (
+        "closed comes ahead of stale",
+        (5, 2, 0, 0),
+        &[
+            (Call::Ready, Answer::Done),
+            (Call::Enter(0), Answer::Ticket(0, 0, 0)),
+            (Call::Take(0, 0), Answer::Dial(1)),
+            (Call::Established(1), Answer::Established),
+            (Call::Clear, Answer::Done),
+            (Call::Close, Answer::Done),
+            (Call::CheckIn(1, 0), Answer::Shut(CloseReason::PoolClosed)),
+        ],
+    ),
+];
+
+#[test]
+fn runs_of_lending(rt: HostRuntime) {
+    run_all(&rt, rt.alloc(), RUNS);
+}

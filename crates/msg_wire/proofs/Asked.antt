@@ -1,5 +1,5 @@
 -- What Short asks for, and what is known once as many bytes are there.
-use Rattle.std.proofs.Common.{◌≡◌, ◌≢◌, ◌≤◌, ◌<◌, ℕ, ℤ, Bool, true, false, cond, not, eqb, ltb, leb, List, [], ◌∷◌, zero, suc, ◌++◌, length, take, drop, Option, Some, None, Result, Ok, Err, IfErr, refl, sym, ap, ◌∙◌, subst, arith, length-append, inl, inr, ◌⊎◌}
+use Rattle.std.proofs.Common.{◌≡◌, ◌≢◌, ◌≤◌, ◌<◌, ℕ, ℤ, Bool, true, false, cond, not, eqb, ltb, leb, List, [], ◌∷◌, zero, suc, ◌++◌, length, take, drop, Option, Some, None, Result, Ok, Err, IfErr, refl, sym, ap, ◌∙◌, subst, arith, length-append, lit<, inl, inr, ◌⊎◌}
 use Rattle.std.proofs.lemmas.Bool.{cases_lt}
 use Rattle.std.proofs.lemmas.Bool.Decides.{nat_tests}
 use Rattle.std.proofs.lemmas.List.{take_all, take-append-le, length-take-le}
@@ -166,15 +166,32 @@ settled bytes more h = elim (cases_lt (length bytes) 16) [
       ]
 ]
 
+in_order-append : (bytes more : List ℕ) → 16 ≤ length bytes → InOrder (number_at 0 bytes) (number_at 12 bytes) → InOrder (number_at 0 (bytes ++ more)) (number_at 12 (bytes ++ more))
+in_order-append bytes more there order = rw (number_at-append 0 bytes more (omega arith), number_at-append 12 bytes more (omega arith)) order
+
+pub flaw-nil : flaw [] ≡ Some (fault.Short 16)
+flaw-nil = flaw-read [] (fault.Short 16) (read-early [] (lit< tt))
+
+-- Until as many bytes are there as it asked for, it asks for as many.
+pub still_short : (bytes more : List ℕ) (n : ℕ) → flaw bytes ≡ Some (fault.Short n) → length (bytes ++ more) < n → flaw (bytes ++ more) ≡ Some (fault.Short n)
+still_short bytes more n h few = elim (cases_lt (length bytes) 16) [
+  | inl early ↦
+      let same : n ≡ 16 = (asks bytes n h).header early in
+      rw same (flaw-read (bytes ++ more) (fault.Short 16) (read-early (bytes ++ more) (omega arith)))
+  | inr there ↦
+      let w = Waits-from_flaw bytes n there h in
+      let total : number_at 0 (bytes ++ more) ≡ n = number_at-append 0 bytes more (omega arith) ∙ w.total in
+      let order = in_order-append bytes more there w.order in
+      let later = read-partial (bytes ++ more) (omega (arith, length-append bytes more)) order (omega arith) in
+      flaw-read (bytes ++ more) (fault.Short n) (later ∙ ap (λ k. Err (fault.Short k)) total)
+]
+
 -- Where the header is in order, no fault is its own.
 not_refusal : (bytes : List ℕ) (e : MsgFault) → 16 ≤ length bytes → InOrder (number_at 0 bytes) (number_at 12 bytes) → IsRefusal e → (IsBehind e → ⊥) → e ≢ fault.Short (number_at 0 bytes) → flaw bytes ≢ Some e
 not_refusal bytes e there order r b s h = elim (cases_lt (length bytes) (number_at 0 bytes)) [
   | inl few ↦ s (err_same (read bytes) e (fault.Short (number_at 0 bytes)) (read-flaw bytes e h) (read-partial bytes there order few))
   | inr enough ↦ not_behind (message_at (take (number_at 0 bytes) bytes)) e (IsBehind-message_at (take (number_at 0 bytes) bytes)) (sym (read-whole bytes there order enough) ∙ read-flaw bytes e h) b
 ]
-
-in_order-append : (bytes more : List ℕ) → 16 ≤ length bytes → InOrder (number_at 0 bytes) (number_at 12 bytes) → InOrder (number_at 0 (bytes ++ more)) (number_at 12 (bytes ++ more))
-in_order-append bytes more there order = rw (number_at-append 0 bytes more (omega arith), number_at-append 12 bytes more (omega arith)) order
 
 pub header_first : (bytes more : List ℕ) (n : ℕ) (got : ℤ) → 16 ≤ length bytes → flaw bytes ≡ Some (fault.Short n)
     → (flaw (bytes ++ more) ≢ Some (fault.Length got)) × (flaw (bytes ++ more) ≢ Some (fault.Opcode got))

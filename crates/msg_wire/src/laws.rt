@@ -75,3 +75,9 @@ pub fn enough()
         → 16 ≤ length bytes → flaw bytes ≡ Some (MsgFault.Short n) → length (bytes ++ more) ≡ n
         → IsWhole (bytes ++ more) }
 {}
+
+/// Until as many bytes are there as it asked for, it asks for as many.
+pub fn still_short()
+    ensures { (bytes more : List ℕ) (n : ℕ) → flaw bytes ≡ Some (MsgFault.Short n) → length (bytes ++ more) < n
+        → flaw (bytes ++ more) ≡ Some (MsgFault.Short n) }
+{}

@@ -28,7 +28,7 @@ mod writing;
 pub use fault::MsgFault;
 pub use laws::{
     at_least, enough, flawless, frames, header_first, no_prefix, one_message, read_again, settled,
-    short,
+    short, still_short,
 };
 pub use message::Message;
 pub use reading::{need, read};

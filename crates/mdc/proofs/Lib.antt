@@ -1,0 +1,5 @@
+mod FlawLemmas
+mod MeansLemmas
+mod RequestLemmas
+mod TrackLemmas
+mod WordLemmas

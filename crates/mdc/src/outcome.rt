@@ -1,0 +1,27 @@
+/// What a command's line in the report says.
+#[derive(Clone, Copy, Debug, PartialEq, Eq)]
+pub enum FirstOutcome {
+    /// The reply's `ok` is one: the command was carried out.
+    Ok {
+        /// The reply's `n`: how many documents were inserted.
+        n: i64,
+        /// How many documents were modified; an insert modifies none.
+        modified: i64,
+    },
+    /// The reply's `ok` is not one.
+    Error {
+        /// The reply's `code`, 0 where it has none.
+        code: i32,
+    },
+    /// The connection could not be made, or ended or failed before a whole reply came.
+    Network,
+    /// No whole reply came in time.
+    Late,
+    /// What came is no reply to the request.
+    BadReply {
+        /// The place in the message that is at fault.
+        at: u32,
+    },
+    /// The reply has a field that is not read yet, such as `writeErrors`.
+    Unbuilt,
+}

@@ -1,0 +1,154 @@
+ghost use Rattle.std.specs.Prelude.{◌≡◌, ◌<◌, ◌≤◌, []};
+ghost use Rattle.net_link.specs.Causes.{Rose};
+
+use mio::net::TcpStream;
+use net_link::{Came, Dialed, Net, Wrote};
+use std::alloc::Global;
+use std::io;
+use std::io::{ErrorKind, Read, Write};
+use std::net::{Net as Sockets, SocketAddr, ToSocketAddrs};
+
+/// A net of non-blocking sockets. It tells nothing.
+///
+/// A dial begins a connection, and until that stands `write` and `read` answer `NotYet`. An address in digits is not
+/// looked up; a host's name is, and the lookup may wait.
+#[derive(Drop)]
+pub struct SocketNet<'a, H: Sockets> {
+    handle: &'a H,
+    lines: Vec<Line>,
+    next: u64,
+    faults: u64,
+}
+
+/// A stream's number and its socket.
+#[derive(Drop)]
+struct Line {
+    stream: u64,
+    socket: TcpStream,
+}
+
+impl<'a, H: Sockets> SocketNet<'a, H> {
+    pub fn new(alloc: Global, handle: &'a H) -> SocketNet<'a, H> {
+        SocketNet {
+            handle,
+            lines: Vec::new(alloc),
+            next: 0,
+            faults: 0,
+        }
+    }
+
+    /// Counts a fault.
+    fn fail(&mut self)
+        ensures later { self.old.faults ≤ self.new.faults }
+        ensures rose { Rose self.old.faults self.new.faults }
+        ensures next { self.new.next ≡ self.old.next }
+    {
+        self.faults = self.faults.saturating_add(1);
+    }
+
+    /// Begins a connection to the first address that the text names.
+    fn connect(&self, address: &str) -> io::Result<TcpStream> {
+        let found = match address.parse::<SocketAddr>() {
+            Ok(digits) => Some(digits),
+            Err(_) => address.to_socket_addrs(self.handle)?.next(),
+        };
+        match found {
+            Some(address) => TcpStream::connect(self.handle, address),
+            None => Err(io::Error::from(ErrorKind::NotFound)),
+        }
+    }
+}
+
+fn find(lines: &mut Vec<Line>, stream: u64) -> Option<&mut TcpStream> {
+    for line in lines.iter_mut() {
+        if line.stream == stream {
+            return Some(&mut line.socket);
+        }
+    }
+    None
+}
+
+/// The connection does not stand yet, or it has nothing to give or no room to take.
+fn is_not_yet(error: &io::Error) -> bool {
+    matches!(
+        error.kind(),
+        ErrorKind::WouldBlock | ErrorKind::Interrupted | ErrorKind::NotConnected
+    )
+}
+
+impl<'a, H: Sockets> Net for SocketNet<'a, H> {
+    ghost faults = { λ s. s.faults };
+
+    ghost is_open = { λ s t. t < s.next };
+
+    ghost next = { λ s. s.next };
+
+    ghost tells = { ⊥ };
+
+    ghost history = { λ _. [] };
+
+    ghost inbox = { λ _ _. [] };
+
+    ghost has_ended = { λ _ _. ⊥ };
+
+    ghost is_full = { λ _ _. ⊥ };
+
+    ghost below = { λ _ _ given. given };
+
+    fn dial(&mut self, address: &str) -> Dialed {
+        let Ok(socket) = self.connect(address) else {
+            self.fail();
+            return Dialed::Failed;
+        };
+        let stream = self.next;
+        let Some(next) = stream.checked_add(1) else {
+            self.fail();
+            return Dialed::Failed;
+        };
+        let Ok(()) = self.lines.push(Line { stream, socket }) else {
+            return Dialed::Memory;
+        };
+        self.next = next;
+        Dialed::Stream(stream)
+    }
+
+    fn write(&mut self, stream: u64, bytes: &[u8]) -> Wrote {
+        let result = match find(&mut self.lines, stream) {
+            Some(socket) => socket.write(bytes),
+            None => Err(io::Error::from(ErrorKind::NotFound)),
+        };
+        match result {
+            Ok(0) => Wrote::NotYet,
+            Ok(count) => Wrote::Took(count),
+            Err(error) => {
+                if is_not_yet(&error) {
+                    return Wrote::NotYet;
+                }
+                self.fail();
+                Wrote::Failed
+            }
+        }
+    }
+
+    fn read(&mut self, stream: u64, into: &mut [u8]) -> Came {
+        let result = match find(&mut self.lines, stream) {
+            Some(socket) => socket.read(into),
+            None => Err(io::Error::from(ErrorKind::NotFound)),
+        };
+        match result {
+            Ok(0) => Came::End,
+            Ok(count) => Came::Got(count),
+            Err(error) => {
+                if is_not_yet(&error) {
+                    return Came::NotYet;
+                }
+                self.fail();
+                Came::Failed
+            }
+        }
+    }
+
+    fn close(&mut self, stream: u64) {
+        self.lines.retain(|line| line.stream != stream);
+    }
+}

@@ -1,0 +1,144 @@
+#!/usr/bin/env python3
+"""The cases of scripts/smoke: what a peer answers over a real socket, and what mdc must print, end with and have sent."""
+
+import subprocess
+import sys
+import tempfile
+import time
+from pathlib import Path
+
+HERE = Path(__file__).parent
+WAIT_SECONDS = 40
+
+# The insert of {_id: 7} into collection `a` of database `test`, request id 1, by the OP_MSG and BSON standards.
+REQUEST = (
+    "96000000 01000000 00000000 dd070000 00000000 00 81000000"
+    " 02 696e7365727400 02000000 6100"
+    " 04 646f63756d656e747300 16000000 03 3000 0e000000 10 5f696400 07000000 00 00"
+    " 08 6f72646572656400 01"
+    " 03 7772697465436f6e6365726e00 15000000 02 7700 09000000 6d616a6f7269747900 00"
+    " 02 61706956657273696f6e00 02000000 3100"
+    " 02 24646200 05000000 7465737400 00"
+).replace(" ", "")
+
+# {n: 1, ok: 1.0} in answer to request 1.
+REPLY = (
+    "2d000000 07000000 01000000 dd070000 00000000 00"
+    " 18000000 10 6e00 01000000 01 6f6b00 000000000000f03f 00"
+).replace(" ", "")
+
+# {ok: 1.0} in answer to request 1.
+REPLY_WITHOUT_N = (
+    "26000000 07000000 01000000 dd070000 00000000 00 11000000 01 6f6b00 000000000000f03f 00"
+).replace(" ", "")
+
+
+def with_bytes(reply, place, digits):
+    """The reply with other bytes at a place."""
+    at = 2 * place
+    return reply[:at] + digits + reply[at + len(digits):]
+
+
+OK = "1: ok n=1 modified=0 attempts=1"
+NETWORK = "1: network attempts=1"
+
+# (what the case shows, the peer's mode and bytes, the command's line, status)
+CASES = [
+    ("a reply at once", "whole:" + REPLY, OK, 0),
+    ("a reply byte by byte", "bytes:" + REPLY, OK, 0),
+    ("a reply without n", "whole:" + REPLY_WITHOUT_N, "1: ok n=0 modified=0 attempts=1", 0),
+    ("two replies at once", "whole:" + REPLY + REPLY, OK, 0),
+    ("a reply cut behind 15 bytes", "cut:" + REPLY[:30], NETWORK, 1),
+    ("a reply cut behind 40 bytes", "cut:" + REPLY[:80], NETWORK, 1),
+    ("the end in place of a reply", "early:", NETWORK, 1),
+    ("the answer to another request", "whole:" + with_bytes(REPLY, 8, "02000000"), "1: bad-reply 8 attempts=1", 1),
+    ("a length of 25", "whole:" + with_bytes(REPLY, 0, "19000000"), "1: bad-reply 0 attempts=1", 1),
+    ("a length below zero", "whole:" + with_bytes(REPLY, 0, "ffffffff"), "1: bad-reply 0 attempts=1", 1),
+    ("an opcode of 1", "whole:" + with_bytes(REPLY, 12, "01000000"), "1: bad-reply 12 attempts=1", 1),
+    ("flag bit 2", "whole:" + with_bytes(REPLY, 16, "04000000"), "1: bad-reply 16 attempts=1", 1),
+    ("flag bit 17", "whole:" + with_bytes(REPLY, 16, "00000200"), OK, 0),
+    ("a section of kind 9", "whole:" + with_bytes(REPLY, 20, "09"), "1: bad-reply 20 attempts=1", 1),
+    ("a document that is too long", "whole:" + with_bytes(REPLY, 21, "19000000"), "1: bad-reply 21 attempts=1", 1),
+    ("ok is zero, with a code", "whole:" + "30000000 07000000 01000000 dd070000 00000000 00 1b000000 01 6f6b00 0000000000000000 10 636f646500 10270000 00".replace(" ", ""), "1: error 10000 attempts=1", 1),
+]
+
+
+def wait_for(path):
+    for _ in range(500):
+        if path.exists() and path.read_text():
+            return path.read_text()
+        time.sleep(0.02)
+    raise RuntimeError(f"{path} was not written")
+
+
+def run(mdc, words):
+    done = subprocess.run([mdc, *words], capture_output=True, text=True, timeout=WAIT_SECONDS)
+    return done.returncode, done.stdout, done.stderr
+
+
+def compare(name, got, wanted, counts):
+    if got == wanted:
+        counts[0] += 1
+        print(f"ok: {name}")
+    else:
+        counts[1] += 1
+        print(f"FAILED: {name}\n  wanted {wanted!r}\n  got    {got!r}")
+
+
+def peer_cases(mdc, counts):
+    with tempfile.TemporaryDirectory() as folder:
+        port_file, received_file = Path(folder, "port"), Path(folder, "received")
+        peer = subprocess.Popen(
+            [sys.executable, HERE / "responder.py", port_file, received_file, *[plan for _, plan, _, _ in CASES]]
+        )
+        host = "127.0.0.1:" + wait_for(port_file)
+        for name, _, line, status in CASES:
+            wanted = (status, f"{line}\ndone 1 ok {1 if status == 0 else 0}\n", "")
+            compare(name, run(mdc, ["insert", host, "test", "a", "7"]), wanted, counts)
+        compare("the peer ended well", peer.wait(timeout=WAIT_SECONDS), 0, counts)
+        compare("what was sent", received_file.read_text().split(), [REQUEST] * len(CASES), counts)
+
+
+def word_cases(mdc, counts):
+    for words in [[], ["insert"], ["insert", "h:1", "d", "c", "x"], ["insert", "h:1", "d", "c", "2147483648"], ["insert", "", "d", "c", "1"], ["run"]]:
+        compare(f"the words {words}", run(mdc, words), (2, "", "mdc: usage\n"), counts)
+    compare("nothing listens", run(mdc, ["insert", "127.0.0.1:1", "test", "a", "7"]), (1, f"{NETWORK}\ndone 1 ok 0\n", ""), counts)
+    full = subprocess.run([mdc, "insert", "127.0.0.1:1", "test", "a", "7"], stdout=open("/dev/full", "w"), stderr=subprocess.PIPE, text=True, timeout=WAIT_SECONDS)
+    compare("an output that is full", (full.returncode, full.stderr), (5, "mdc: write fault\n"), counts)
+
+
+class SilentCase:
+    """A peer that never answers: the call comes back late. It runs beside the other cases."""
+
+    def __init__(self, mdc):
+        self.folder = tempfile.TemporaryDirectory()
+        port_file, received_file = Path(self.folder.name, "port"), Path(self.folder.name, "received")
+        self.peer = subprocess.Popen([sys.executable, HERE / "responder.py", port_file, received_file, "silent:"])
+        host = "127.0.0.1:" + wait_for(port_file)
+        self.began = time.monotonic()
+        self.call = subprocess.Popen(
+            [mdc, "insert", host, "test", "a", "7"], stdout=subprocess.PIPE, stderr=subprocess.PIPE, text=True
+        )
+
+    def end(self, counts):
+        out, err = self.call.communicate(timeout=WAIT_SECONDS)
+        took = time.monotonic() - self.began
+        wanted = (1, "1: late attempts=1\ndone 1 ok 0\n", "")
+        compare("a peer that never answers", (self.call.returncode, out, err), wanted, counts)
+        compare("it came back after 30 to 35 seconds", 30 <= took < 35, True, counts)
+        self.peer.wait(timeout=WAIT_SECONDS)
+        self.folder.cleanup()
+
+
+def main():
+    mdc = sys.argv[1]
+    counts = [0, 0]
+    silent = SilentCase(mdc)
+    peer_cases(mdc, counts)
+    word_cases(mdc, counts)
+    silent.end(counts)
+    print(f"{counts[0]} passed, {counts[1]} failed")
+    return 1 if counts[1] else 0
+
+
+sys.exit(main())

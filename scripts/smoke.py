@@ -21,13 +21,13 @@ REQUEST = (
     " 02 24646200 05000000 7465737400 00"
 ).replace(" ", "")
 
-# {n: 1, ok: 1.0} in answer to request 1.
+# {n: 1, ok: 1.0} in answer to it.
 REPLY = (
     "2d000000 07000000 01000000 dd070000 00000000 00"
     " 18000000 10 6e00 01000000 01 6f6b00 000000000000f03f 00"
 ).replace(" ", "")
 
-# {ok: 1.0} in answer to request 1.
+# {ok: 1.0} in answer to it.
 REPLY_WITHOUT_N = (
     "26000000 07000000 01000000 dd070000 00000000 00 11000000 01 6f6b00 000000000000f03f 00"
 ).replace(" ", "")

@@ -9,27 +9,27 @@ use std::alloc::Global;
 use std::sync::Wait;
 use std::test::Fail;
 
-/// The insert of `{_id: 7}` into collection `a` of database `test`, with request id 1.
+/// The request: the insert of `{_id: 7}` into collection `a` of database `test`, with id 1.
 const REQUEST: &[u8] =
     b"\x96\0\0\0\x01\0\0\0\0\0\0\0\xdd\x07\0\0\0\0\0\0\0\x81\0\0\0\x02insert\0\x02\0\0\0a\0\x04documents\0\x16\0\0\0\x030\0\x0e\0\0\0\x10_id\0\x07\0\0\0\0\0\x08ordered\0\x01\x03writeConcern\0\x15\0\0\0\x02w\0\x09\0\0\0majority\0\0\x02apiVersion\0\x02\0\0\x001\0\x02$db\0\x05\0\0\0test\0\0";
 
-/// `{n: 1, ok: 1.0}` in answer to request 1.
+/// `{n: 1, ok: 1.0}` in answer to it.
 const REPLY: &[u8] =
     b"\x2d\0\0\0\x07\0\0\0\x01\0\0\0\xdd\x07\0\0\0\0\0\0\0\x18\0\0\0\x10n\0\x01\0\0\0\x01ok\0\0\0\0\0\0\0\xf0\x3f\0";
 
-/// `{ok: 1.0}` in answer to request 1.
+/// `{ok: 1.0}` in answer to it.
 const WITHOUT_N: &[u8] =
     b"\x26\0\0\0\x07\0\0\0\x01\0\0\0\xdd\x07\0\0\0\0\0\0\0\x11\0\0\0\x01ok\0\0\0\0\0\0\0\xf0\x3f\0";
 
-/// `{ok: 1.0}` in answer to request 2.
+/// `{ok: 1.0}` in answer to another one, of id 2.
 const TO_ANOTHER: &[u8] =
     b"\x26\0\0\0\x07\0\0\0\x02\0\0\0\xdd\x07\0\0\0\0\0\0\0\x11\0\0\0\x01ok\0\0\0\0\0\0\0\xf0\x3f\0";
 
-/// `{ok: 0.0, code: 10000}` in answer to request 1.
+/// `{ok: 0.0, code: 10000}` in answer to it.
 const REFUSED: &[u8] =
     b"\x30\0\0\0\x07\0\0\0\x01\0\0\0\xdd\x07\0\0\0\0\0\0\0\x1b\0\0\0\x01ok\0\0\0\0\0\0\0\0\0\x10code\0\x10\x27\0\0\0";
 
-/// `{ok: 1.0, cursor: 0}` in answer to request 1.
+/// `{ok: 1.0, cursor: 0}` in answer to it.
 const UNREAD: &[u8] =
     b"\x32\0\0\0\x07\0\0\0\x01\0\0\0\xdd\x07\0\0\0\0\0\0\0\x1d\0\0\0\x01ok\0\0\0\0\0\0\0\xf0\x3f\x10cursor\0\0\0\0\0\0";
 

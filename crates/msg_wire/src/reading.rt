@@ -1,5 +1,6 @@
 ghost use Rattle.std.specs.Prelude.{◌≡◌, ◌≢◌, ◌≤◌, ℕ, List, ◌++◌, length, take, Some, None, IfOk, IfErr, OnOk, Err, MatchResult};
 ghost use Rattle.msg_wire.specs.declared.message.Message.{Message};
+ghost use Rattle.msg_wire.specs.declared.fault.MsgFault.{MsgFault};
 ghost use Rattle.msg_wire.specs.Asking.{IsWhole};
 ghost use Rattle.msg_wire.specs.Framing.{Framed};
 ghost use Rattle.msg_wire.specs.Reading.{Gives, header_at, checked_flags, document_at, body_fault, sections_at, message_at, number_at, need_of, flaw};
@@ -48,13 +49,17 @@ pub fn read(alloc: Global, bytes: &[u8]) -> Result<Message, MsgFault>
     // Where the bytes are as many as their header says, the message is all of them, and no more are asked for.
     ensures whole { IsWhole bytes.now
         → MatchResult result (λ m. Framed bytes.now m) (λ e. (n : ℕ) → e ≢ MsgFault.Short n) }
+
+    // What is wrong with the header, or that bytes are missing, is answered whatever the memory.
+    ensures header { (e : MsgFault) → header_at bytes.now ≡ Err e → result ≡ Err e }
 {
     whole(alloc, bytes)
 }
 
 #[tactic(auto, unfolding(crate::specs::Reading::read))]
 fn whole(alloc: Global, bytes: &[u8]) -> Result<Message, MsgFault>
-    ensures { Gives (λ m. m) result (spec.read bytes.now) }
+    ensures gives { Gives (λ m. m) result (spec.read bytes.now) }
+    ensures header { (e : MsgFault) → header_at bytes.now ≡ Err e → result ≡ Err e }
 {
     let total = header_of(bytes)?;
     message_of(alloc, &bytes[..total as usize])
@@ -63,6 +68,7 @@ fn whole(alloc: Global, bytes: &[u8]) -> Result<Message, MsgFault>
 #[tactic(auto, unfolding(crate::specs::Reading::header_at))]
 fn header_of(bytes: &[u8]) -> Result<u32, MsgFault>
     ensures gives { Gives (λ n. n) result (header_at bytes.now) }
+    ensures exact { result ≡ header_at bytes.now }
     ensures whole { IfOk result (λ n. n ≤ length bytes.now) }
     ensures least { IfOk result (λ n. 26 ≤ n) }
     ensures most { IfOk result (λ n. n ≤ 48000000) }

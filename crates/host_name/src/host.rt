@@ -1,14 +1,15 @@
-ghost use Rattle.std.specs.Prelude.{◌≡◌, ◌↔◌, IfOk, IsTrue, string_bytes};
+ghost use Rattle.std.specs.Prelude.{◌≡◌, ◌↔◌, IfOk, IsTrue, IsUtf8, string_bytes};
 ghost use Rattle.std.specs.Ordering.{as_partial_cmp};
 ghost use Rattle.std.specs.Cmp.{partial_order_from_own_ties};
 ghost use Rattle.std.specs.Cmp.Rules.{comparing};
 ghost use Rattle.std.proofs.Common.{rules};
-ghost use Rattle.host_name.specs.Addresses.{is_same_address, address_cmp};
+ghost use Rattle.host_name.specs.Addresses.{is_same_address, address_cmp, address_writes, address_writes-same};
 
 use crate::Memory;
 use std::alloc::Global;
 use std::cmp::Ordering;
 use std::fmt;
+use std::hash::{Hash, Hasher};
 use std::marker::Model;
 
 /// A server's name, in lower case, and its port.
@@ -36,7 +37,8 @@ impl Host {
 
     /// The name, in lower case, with its brackets where it has them.
     pub fn name(&self) -> &str
-        ensures { result.now ≡ self.now.name }
+        ensures value { result.now ≡ self.now.name }
+        ensures utf8 { IsUtf8 result.now }
     {
         self.name.as_str()
     }
@@ -65,7 +67,10 @@ impl PartialEq for Host {
 
     ghost laws = { Prim.search (comparing, rules) };
 
-    fn eq(&self, other: &Host) -> bool {
+    fn eq(&self, other: &Host) -> bool
+        ensures value { result ≡ is_same_address self.now other.now }
+        ensures same { IsTrue result ↔ (self.now ≡ other.now) }
+    {
         self.name() == other.name() && self.port == other.port
     }
 }
@@ -97,6 +102,17 @@ impl Ord for Host {
         self.name()
             .cmp(&other.name())
             .then(self.port.cmp(&other.port))
+    }
+}
+
+impl Hash for Host {
+    ghost hash_input = { address_writes };
+
+    ghost respects_eq = { address_writes-same };
+
+    fn hash<H: Hasher>(&self, state: &mut H) {
+        self.name().hash(state);
+        self.port.hash(state);
     }
 }
 

@@ -20,7 +20,8 @@ const MOST_DIGITS: usize = 5;
 impl Host {
     /// Reads `name`, `name:port`, `[v6]` or `[v6]:port`, and puts A to Z in lower case.
     ///
-    /// The name ends at the first colon outside brackets; a name in brackets keeps them. The port is 27017 where it is
+    /// The name ends at the first colon outside brackets, and keeps the brackets that it has; an opening one in the
+    /// name's middle owes a closing one too, and what stands behind the colon is the port. The port is 27017 where it is
     /// absent. The first fault is told, in the order of [`HostFault`]; `Memory` comes only where the text is a host.
     pub fn parse(alloc: Global, text: &str) -> Result<Host, HostFault>
         ensures read { result ≢ Err HostFault.Memory → result ≡ reading text.now }

@@ -13,8 +13,8 @@ pub record AsksFor (bytes : List ℕ) (n : ℕ) : Type 0 where
   pub header : length bytes < 16 → n ≡ 16
   pub message : 16 ≤ length bytes → need_of bytes ≡ Some n
 
--- The bytes are as many as their header says: a message at their front is all of them, no more are asked for, and the
--- header has no fault.
+-- What holds of bytes once they are as many as the header at their front asked for (the law `enough`): a message at
+-- their front is all of them, no more are asked for, and the header has no fault.
 pub record IsWhole (bytes : List ℕ) : Type 0 where
   pub all : (n : ℕ) (message : Message) → Framed (take n bytes) message → Framed bytes message
   pub not_short : (n : ℕ) → flaw bytes ≢ Some (fault.Short n)

@@ -48,15 +48,17 @@ pub record Framed (bytes : List ℕ) (message : Message) : Type 0 where
   pub counted : message.length ≡ length bytes
   pub size : length bytes ≤ 48000000
 
--- The header of a message of so many bytes.
+-- The header of a message of so many bytes (MongoDB wire protocol, Standard Message Header).
 unfoldable pub header : ℕ → ℤ → ℤ → List ℕ
 header total id to = int32 total ++ int32 (cast_unsigned w32 id) ++ int32 (cast_unsigned w32 to) ++ int32 2013
 
--- The header, flagBits, and one section of kind 0 with these bytes of a document. In front of them stand 21 bytes.
+-- The header, flagBits, and one section of kind 0 with these bytes of a document (MongoDB wire protocol, OP_MSG). In
+-- front of them stand 21 bytes.
 unfoldable pub framing : ℤ → ℤ → ℕ → List ℕ → List ℕ
 framing id to flags spelling = header (length spelling + 21) id to ++ int32 flags ++ 0 ∷ spelling
 
--- The bytes of the message with one section of kind 0, which holds the document in its one spelling.
+-- The bytes of the message with one section of kind 0, which holds the document in its one spelling (MongoDB wire
+-- protocol, OP_MSG).
 unfoldable pub frame : ℤ → ℤ → ℕ → Document → List ℕ
 frame id to flags document = framing id to flags (spelled document)
 

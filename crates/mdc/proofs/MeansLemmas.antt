@@ -1,23 +1,24 @@
 -- How a shot's end means what its stream told.
-use Rattle.std.proofs.Common.{◌≡◌, ℕ, true, List, [], ◌∷◌, Some, filter, rules, Result, Ok, Err, IfOk, ◌∙◌, sym, ap, subst, inl, inr}
+use Rattle.std.proofs.Common.{◌≡◌, ℕ, true, List, [], ◌∷◌, Some, rules, Result, Ok, Err, IfOk, ◌∙◌, sym, ap, subst, inl, inr}
 use Rattle.msg_wire.specs.Reading.{flaw}
 use Rattle.std.specs.declared.alloc.AllocError.{AllocError}
 use Rattle.net_link.specs.Seen.{Seen, seen, unseen}
 use Rattle.net_link.specs.declared.event.NetEvent.{NetEvent}
-use Rattle.net_link.specs.Events.{Adds, IsFresh, is_call}
+use Rattle.net_link.specs.Events.{Adds, IsFresh}
+use Rattle.net_link.proofs.EventLemmas.{Adds-trans}
 use Rattle.net_link.specs.Prefix.{IsPrefixOf}
 use Rattle.net_link.specs.declared.event.NetEvent.TheVariants as event
 use Rattle.net_link.proofs.PrefixLemmas.{IsPrefixOf-from_eq}
 use Rattle.net_link.proofs.SeenLemmas.{seen-closed, seen-dialled, seen-fresh}
 use Rattle.mdc.specs.Exchange.{MeansReply, RepliesSo, SendsOnly}
 use Rattle.mdc.specs.Track.{Moves, Starts}
-use Rattle.mdc.specs.Wired.{AnswersAnother, IsAnswer, IsFaultyAt, IsNotWhole, Means, SendsOnce, none, on, Wired}
+use Rattle.mdc.specs.Wired.{AnswersAnother, IsAnswer, IsFaultyAt, IsNotWhole, Means, SendsOnce, none, on, UsesOnly, Wired}
 use Rattle.mdc.specs.declared.exchange.Ending.{Ending}
 use Rattle.mdc.specs.declared.outcome.FirstOutcome.{FirstOutcome}
 use Rattle.mdc.specs.declared.shot.ShotEnd.{ShotEnd}
 use Rattle.mdc.specs.declared.shot.ShotEnd.TheVariants as end
 use Rattle.msg_wire.proofs.Asked.{flaw-nil}
-use Rattle.mdc.proofs.TrackLemmas.{OnlyAt-one, OnlyAt-trans, at_itself, sends-all, sends-front, starts-empty}
+use Rattle.mdc.proofs.TrackLemmas.{sends-all, sends-front, starts-empty}
 
 -- Where all of the request is out, the end means what the bytes that came say.
 Means-from_reply : (v : Seen) (request came : List ℕ) (ended : ShotEnd) (said : FirstOutcome) → v.out ≡ request → v.came ≡ came
@@ -52,16 +53,25 @@ means-late said fresh starts waits =
 pub unseen-dialled : {s : ℕ} {a b : List NetEvent} (address : List ℕ) → IsFresh s a → Adds (event.Dialled s address ∷ []) a b → seen s b ≡ unseen
 unseen-dialled {s = s} {a = a} address fresh adds = seen-dialled s s address adds ∙ seen-fresh s a fresh
 
+-- All of it concerned that stream.
+uses-only : {s : ℕ} {h a b c : List NetEvent} {request : List ℕ} (address : List ℕ) → Adds (event.Dialled s address ∷ []) h a
+    → SendsOnly s request a b → Adds (event.Closed s ∷ []) b c → UsesOnly s address h c
+uses-only address dialled sends closed = record {
+  between = sends.only.events;
+  here = sends.only.here;
+  adds = Adds-trans dialled (Adds-trans sends.only.adds closed);
+}
+
 pub once-on : {s : ℕ} {h a b c : List NetEvent} {request : List ℕ} (address : List ℕ) → IsFresh s h → Adds (event.Dialled s address ∷ []) h a
     → SendsOnly s request a b → Adds (event.Closed s ∷ []) b c → SendsOnce request h c
 once-on {s = s} {request = request} address fresh dialled sends closed =
-    let whole = OnlyAt-trans s (OnlyAt-one s (event.Dialled s address) (at_itself s) dialled) (OnlyAt-trans s sends.only (OnlyAt-one s (event.Closed s) (at_itself s) closed)) in
-    on s fresh whole.events whole.adds whole.here (subst (λ v. IsPrefixOf v.out request) (sym (seen-closed s s closed)) sends.out)
+    on s address fresh (uses-only address dialled sends closed) (subst (λ v. IsPrefixOf v.out request) (sym (seen-closed s s closed)) sends.out)
 
-pub wired-on : (s : ℕ) (h b c : List NetEvent) (request address : List ℕ) (ended : ShotEnd) (said : FirstOutcome) → IsFresh s h
-    → Means (seen s b) request ended said → Adds (event.Closed s ∷ []) b c → Wired h c address request (Some s) ended said
-wired-on s h b c request address ended said fresh means closed =
-    (fresh, subst (λ v. Means v request ended said) (sym (seen-closed s s closed)) means, record { before = filter is_call b; last = closed.own })
+pub wired-on : {s : ℕ} {h a b c : List NetEvent} {request : List ℕ} (address : List ℕ) (ended : ShotEnd) (said : FirstOutcome) → IsFresh s h
+    → Adds (event.Dialled s address ∷ []) h a → SendsOnly s request a b → Means (seen s b) request ended said → Adds (event.Closed s ∷ []) b c
+    → Wired h c address request (Some s) ended said
+wired-on {s = s} {request = request} address ended said fresh dialled sends means closed =
+    (fresh, uses-only address dialled sends closed, subst (λ v. Means v request ended said) (sym (seen-closed s s closed)) means)
 
 pub once-no_dial : {a b : List NetEvent} (request address : List ℕ) → Adds (event.NoDial address ∷ []) a b → SendsOnce request a b
 once-no_dial request address adds = none (event.NoDial address ∷ []) adds (search rules)

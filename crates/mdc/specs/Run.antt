@@ -43,3 +43,12 @@ Reports status.Memory said old new = new ≡ old
 abbrev pub IsUsage : Status → Type 0
 IsUsage (status.Usage fault) = Unit {0}
 IsUsage _ = ⊥
+
+-- The number that the program ends with.
+-- own: as the statuses of the command line are told.
+abbrev pub exit_code : Status → ℕ
+exit_code status.AllOk = 0
+exit_code status.SomeFailed = 1
+exit_code (status.Usage fault) = 2
+exit_code status.WriteFault = 5
+exit_code status.Memory = 6

@@ -1,6 +1,6 @@
 -- How a shot, one command on one stream, belongs together with what the net told of it.
-use Rattle.std.specs.Prelude.{◌≡◌, ◌≢◌, ℕ, ◌⊎◌, Bool, true, false, List, [], ◌∷◌, ◌++◌, Option, Some, None, All, filter}
-use Rattle.net_link.specs.Events.{Adds, IsFresh, is_at, is_call}
+use Rattle.std.specs.Prelude.{◌≡◌, ◌≢◌, ℕ, ◌⊎◌, Bool, true, false, List, [], ◌∷◌, ◌++◌, Option, Some, None, All}
+use Rattle.net_link.specs.Events.{Adds, IsFresh, is_at}
 use Rattle.net_link.specs.Prefix.{IsPrefixOf}
 use Rattle.net_link.specs.Seen.{Seen, seen}
 use Rattle.net_link.specs.declared.event.NetEvent.{NetEvent}
@@ -62,17 +62,20 @@ Means v request end.TimedOut said = IsPrefixOf v.out request × IsNotWhole v.cam
 Means v request (end.Bad at) said = (v.out ≡ request) × (IsFaultyAt v.came at ⊎ AnswersAnother v.came at)
 Means v request end.NoDial said = ⊥
 
--- The last call of the net closed the stream.
-pub record ClosesLast (stream : ℕ) (history : List NetEvent) : Type 0 where
-  pub before : List NetEvent
-  pub last : filter is_call history ≡ before ++ event.Closed stream ∷ []
+-- All that was asked of the net since then concerned this stream: first it was dialled to the address, at last it was
+-- closed.
+-- own: a stream of one request is given back whatever came of it.
+pub record UsesOnly (stream : ℕ) (address : List ℕ) (old new : List NetEvent) : Type 0 where
+  pub between : List NetEvent
+  pub here : All (λ e. is_at e stream ≡ true) between
+  pub adds : Adds (event.Dialled stream address ∷ (between ++ event.Closed stream ∷ [])) old new
 
--- A shot without a stream is a dial to the address that failed. One with a stream has a stream of its own, which told
--- what the end says and was closed.
+-- A shot without a stream is a dial to the address that failed. One with a stream has a stream of its own, dialled to
+-- the address, which told what the end says and was closed.
 abbrev pub Wired : List NetEvent → List NetEvent → List ℕ → List ℕ → Option ℕ → ShotEnd → FirstOutcome → Type 0
 Wired old new address request None ended said = (ended ≡ end.NoDial) × Adds (event.NoDial address ∷ []) old new
 Wired old new address request (Some stream) ended said =
-    IsFresh stream old × Means (seen stream new) request ended said × ClosesLast stream new
+    IsFresh stream old × UsesOnly stream address old new × Means (seen stream new) request ended said
 
 -- The event is no write.
 abbrev pub is_no_write : NetEvent → Bool
@@ -80,11 +83,11 @@ is_no_write (event.Out stream bytes) = false
 is_no_write _ = true
 
 -- At most one request was sent: either nothing was written, or all that was asked of the net concerned one new stream,
--- whose bytes out are the request's, the last perhaps cut.
+-- which was closed, and whose bytes out are the request's, the last perhaps cut.
 pub data SendsOnce (request : List ℕ) (old new : List NetEvent) : Type 0 where
   none : (events : List NetEvent) → Adds events old new → All (λ e. is_no_write e ≡ true) events → SendsOnce request old new
-  on : (stream : ℕ) → IsFresh stream old → (events : List NetEvent) → Adds events old new
-      → All (λ e. is_at e stream ≡ true) events → IsPrefixOf (seen stream new).out request → SendsOnce request old new
+  on : (stream : ℕ) (address : List ℕ) → IsFresh stream old → UsesOnly stream address old new
+      → IsPrefixOf (seen stream new).out request → SendsOnce request old new
 
 -- What the end of a shot says to the user; only an answer says more than its end.
 abbrev pub IsSaid : ShotEnd → FirstOutcome → Type 0

@@ -1,3 +1,6 @@
+ghost use Rattle.std.specs.Prelude.{◌≡◌};
+ghost use Rattle.mdc.specs.Run.{exit_code};
+
 use crate::shot::Shot;
 use bson_doc::Rows;
 
@@ -25,7 +28,9 @@ pub enum UseFault {
 
 impl Status {
     /// The number that the program ends with.
-    pub fn code(self) -> u8 {
+    pub fn code(self) -> u8
+        ensures { result ≡ exit_code self }
+    {
         match self {
             Status::AllOk => 0,
             Status::SomeFailed => 1,

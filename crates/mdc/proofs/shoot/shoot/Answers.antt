@@ -10,7 +10,8 @@ returns-in_err-ending-in-Stream-clause-once g c = λ tells.
 
 pub returns-in_ok-ending-in-Stream-clause-wired : goal.returns-in_ok-ending-in-Stream-clause-wired
 returns-in_ok-ending-in-Stream-clause-wired g c = λ tells.
-    wired-on _ _ _ _ _ c.args.address.now _ _ (c.in-Stream.ensures.fresh tells) (means-as _ _ _ c.as_slice.ensures (c.in_ok-ending-in-Stream.ensures.means tells)) (c.close.ensures.told tells)
+    wired-on c.args.address.now _ _ (c.in-Stream.ensures.fresh tells) (c.in-Stream.ensures.told tells)
+    (sends-as c.as_slice.ensures (c.exchange-ending.ensures.sends tells)) (means-as _ _ _ c.as_slice.ensures (c.in_ok-ending-in-Stream.ensures.means tells)) (c.close.ensures.told tells)
 
 pub returns-in_ok-ending-in-Stream-clause-once : goal.returns-in_ok-ending-in-Stream-clause-once
 returns-in_ok-ending-in-Stream-clause-once g c = λ tells.

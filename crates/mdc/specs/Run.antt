@@ -1,5 +1,5 @@
 -- What a run says by its status, its shots and its output.
-use Rattle.std.specs.Prelude.{◌≡◌, ◌≤◌, ℕ, true, false, List, [], ◌++◌, All, length}
+use Rattle.std.specs.Prelude.{◌≡◌, ◌<◌, ◌≤◌, ℕ, true, false, List, [], ◌++◌, All, length}
 use Rattle.net_link.specs.Prefix.{IsPrefixOf}
 use Rattle.mdc.specs.Report.{is_ok, report}
 use Rattle.mdc.specs.declared.outcome.FirstOutcome.{FirstOutcome}
@@ -16,12 +16,19 @@ Shows (status.Usage fault) shots = shots ≡ []
 Shows status.WriteFault shots = length shots ≡ 1
 Shows status.Memory shots = length shots ≤ 1
 
+-- A front of the report was written, and not all of it.
+pub record WritesPart (whole old new : List ℕ) : Type 0 where
+  pub written : List ℕ
+  pub appended : new ≡ old ++ written
+  pub front : IsPrefixOf written whole
+  pub part : length written < length whole
+
 -- What was written: the report of the shot, or a prefix of it where writing failed; nothing where there is no report.
 abbrev pub Writes : Status → List Shot → List ℕ → List ℕ → Type 0
 Writes status.AllOk shots old new = All (λ s. new ≡ old ++ report s.outcome) shots
 Writes status.SomeFailed shots old new = All (λ s. new ≡ old ++ report s.outcome) shots
 Writes (status.Usage fault) shots old new = new ≡ old
-Writes status.WriteFault shots old new = All (λ s. (written : List ℕ) × (new ≡ old ++ written) × IsPrefixOf written (report s.outcome)) shots
+Writes status.WriteFault shots old new = All (λ s. WritesPart (report s.outcome) old new) shots
 Writes status.Memory shots old new = new ≡ old
 
 -- What the writing of one report says: how the status tells the outcome, and what was written.
@@ -36,7 +43,7 @@ abbrev pub Reports : Status → FirstOutcome → List ℕ → List ℕ → Type 
 Reports status.AllOk said old new = new ≡ old ++ report said
 Reports status.SomeFailed said old new = new ≡ old ++ report said
 Reports (status.Usage fault) said old new = ⊥
-Reports status.WriteFault said old new = (written : List ℕ) × (new ≡ old ++ written) × IsPrefixOf written (report said)
+Reports status.WriteFault said old new = WritesPart (report said) old new
 Reports status.Memory said old new = new ≡ old
 
 -- The words were refused.

@@ -1,5 +1,5 @@
-use Rattle.std.proofs.Common.{◌≡◌, ◌∙◌, take, drop, rules}
-use Rattle.std.proofs.lemmas.List.{take-append-drop}
+use Rattle.std.proofs.Common.{ap, arith, length, ◌≡◌, ◌∙◌, take, drop, rules}
+use Rattle.std.proofs.lemmas.List.{length-take-le, take-append-drop}
 use Rattle.mdc.specs.Report.{report}
 use Rattle.mdc.proofs.run.write_report.Goals as goal
 
@@ -7,4 +7,9 @@ pub returns-in-Err-clause-reports : goal.returns-in-Err-clause-reports
 returns-in-Err-clause-reports g c = λ tells.
     let failed = c.in-Err.ensures.err tells in
     let whole : c.as_bytes.result.now ≡ report c.args.outcome = search rules in
-    (take failed.0 c.as_bytes.result.now, failed.2, record { more = drop failed.0 c.as_bytes.result.now; joined = take-append-drop failed.0 c.as_bytes.result.now ∙ whole })
+    record {
+      written = take failed.0 c.as_bytes.result.now;
+      appended = failed.2;
+      front = record { more = drop failed.0 c.as_bytes.result.now; joined = take-append-drop failed.0 c.as_bytes.result.now ∙ whole };
+      part = omega (arith, failed.1, length-take-le failed.0 c.as_bytes.result.now (omega (arith, failed.1)), ap length whole);
+    }

@@ -1,4 +1,7 @@
-use crate::{Buffer, Bytes, Document, HasNul, Name, Rows, Text, Value, is_one};
+use crate::{
+    Buffer, Bytes, ClusterTime, Document, HasNul, Lsid, Name, Oid, Rows, Text, TopologyVersion,
+    Value, is_one,
+};
 use std::alloc::Global;
 use std::test::Fail;
 
@@ -70,13 +73,125 @@ fn a_hundred_levels_are_copied_and_dropped(rt: HostRuntime) -> Result<(), Fail> 
     Ok(())
 }
 
+/// A document with one field of each kind that holds a text, bytes or a document, each under its kind's name.
+fn held_kinds(alloc: Global) -> Result<Document, Fail> {
+    let mut document = Document::new(alloc);
+    document.push(
+        name(alloc, "binary")?,
+        Value::Binary {
+            subtype: 4,
+            bytes: Bytes::take(alloc, &[1, 2])?,
+        },
+    )?;
+    document.push(
+        name(alloc, "regex")?,
+        Value::Regex {
+            pattern: name(alloc, "^a")?,
+            options: name(alloc, "ix")?,
+        },
+    )?;
+    document.push(
+        name(alloc, "pointer")?,
+        Value::DbPointer {
+            space: Text::take(alloc, "db.c")?,
+            oid: Oid([7; 12]),
+        },
+    )?;
+    let mut scope = Document::new(alloc);
+    scope.push(name(alloc, "x")?, Value::Int64(-1))?;
+    document.push(
+        name(alloc, "scope")?,
+        Value::Scope {
+            code: Text::take(alloc, "x")?,
+            scope,
+        },
+    )?;
+    Ok(document)
+}
+
 #[test]
-fn one_is_an_int32_or_a_double(rt: HostRuntime) -> Result<(), Fail> {
+fn what_a_copy_holds_is_what_was_held(rt: HostRuntime) -> Result<(), Fail> {
+    let copy = held_kinds(rt.alloc())?.copy(rt.alloc())?;
+    assert!(rt;
+        matches!(
+        copy.get("binary"),
+        Some(Value::Binary { subtype: 4, bytes }) if bytes.as_slice() == [1, 2].as_slice()
+    )
+    );
+    assert!(rt;
+        matches!(
+        copy.get("regex"),
+        Some(Value::Regex { pattern, options }) if pattern.as_str() == "^a" && options.as_str() == "ix"
+    )
+    );
+    assert!(rt;
+        matches!(
+        copy.get("pointer"),
+        Some(Value::DbPointer { space, oid: Oid([7, ..]) }) if space.as_str() == "db.c"
+    )
+    );
+    assert!(rt;
+        matches!(
+        copy.get("scope"),
+        Some(Value::Scope { code, scope }) if code.as_str() == "x"
+            && matches!(scope.get("x"), Some(Value::Int64(-1)))
+    )
+    );
+    Ok(())
+}
+
+#[test]
+fn the_scope_of_code_counts_for_the_depth(rt: HostRuntime) -> Result<(), Fail> {
+    assert_eq!(rt; held_kinds(rt.alloc())?.depth(), 2);
+    Ok(())
+}
+
+#[test]
+fn one_is_a_whole_number_or_a_double(rt: HostRuntime) -> Result<(), Fail> {
     assert!(rt; is_one(&Value::Int32(1)));
+    assert!(rt; is_one(&Value::Int64(1)));
     assert!(rt; is_one(&Value::Double([0, 0, 0, 0, 0, 0, 0xf0, 0x3f])));
     assert!(rt; !is_one(&Value::Int32(-1)));
+    assert!(rt; !is_one(&Value::Int64(4_294_967_297)));
     assert!(rt; !is_one(&Value::Double([1, 0, 0, 0, 0, 0, 0xf0, 0x3f])));
     assert!(rt; !is_one(&Value::Bool(true)));
+    assert!(rt; !is_one(&Value::Stamp(1)));
+    Ok(())
+}
+
+#[test]
+fn ids_are_ordered_by_their_bytes_from_the_first_on(rt: HostRuntime) -> Result<(), Fail> {
+    let mut low = [0xff; 12];
+    low[0] = 1;
+    let mut high = [0; 12];
+    high[0] = 2;
+    assert!(rt; Oid(low) < Oid(high));
+    assert!(rt; Oid(low) == Oid(low));
+    let mut last = [0; 16];
+    last[15] = 1;
+    assert!(rt; Lsid([0; 16]) < Lsid(last));
+    Ok(())
+}
+
+#[test]
+fn versions_differ_by_process_or_counter(rt: HostRuntime) -> Result<(), Fail> {
+    let alloc = rt.alloc();
+    let version = TopologyVersion {
+        process: Oid([1; 12]),
+        counter: 6,
+    };
+    assert!(rt; version == version);
+    let later = TopologyVersion {
+        process: Oid([1; 12]),
+        counter: 7,
+    };
+    assert!(rt; version != later);
+    let time = ClusterTime {
+        stamp: 0x8000_0000_0000_0001,
+        body: sample(alloc)?,
+    };
+    assert_eq!(rt; time.stamp >> 32, 0x8000_0000);
+    assert_eq!(rt; time.body.depth(), 3);
     Ok(())
 }
 

@@ -1,9 +1,9 @@
 //! Writing the values that hold no document.
 
-ghost use Rattle.std.specs.Prelude.{◌≡◌, ◌<◌, ◌^◌, ◌++◌, length, OnOk, IfErr, IsUtf8, FitsSigned};
+ghost use Rattle.std.specs.Prelude.{◌≡◌, ◌≤◌, ◌<◌, ◌^◌, ◌++◌, length, OnOk, IfErr, FitsSigned};
 ghost use Rattle.std.specs.Int.{w32, w64, cast_unsigned};
 ghost use Rattle.byteorder.specs.Endian.{little_bytes};
-ghost use Rattle.bson_doc.specs.Names.{HasNoZero};
+ghost use Rattle.bson_wire.specs.Spelling.{IsName};
 ghost use Rattle.bson_wire.specs.Spelled.{number32, int64, string, binary, regex, payload};
 ghost use Rattle.bson_wire.specs.Written.{Stops, PayloadSpells, IsPlain};
 
@@ -146,8 +146,8 @@ fn put_binary(out: &mut Vec<u8>, subtype: u8, bytes: &[u8]) -> Result<(), Encode
 fn put_regex(out: &mut Vec<u8>, pattern: &Name, options: &Name) -> Result<(), EncodeFault>
     ensures ok { OnOk result (out.new.items ≡ out.old.items ++ regex pattern.now options.now) }
     ensures err { IfErr result (λ e. e ≡ EncodeFault.Memory) }
-    ensures first { HasNoZero pattern.now × IsUtf8 pattern.now }
-    ensures second { HasNoZero options.now × IsUtf8 options.now }
+    ensures first { OnOk result (IsName pattern.now) }
+    ensures second { OnOk result (IsName options.now) }
 {
     put_bytes(out, pattern.as_str().as_bytes())?;
     put_byte(out, 0)?;

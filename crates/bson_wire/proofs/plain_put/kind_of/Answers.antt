@@ -1,7 +1,7 @@
 use Rattle.std.proofs.Common.{sym, ap}
 use Rattle.bson_wire.specs.Spelled.{Payload}
 use Rattle.bson_wire.proofs.Payloads.{payload-Str, payload-Doc, payload-Array, payload-Bool}
-use Rattle.bson_wire.proofs.put.kind_of.Goals as goal
+use Rattle.bson_wire.proofs.plain_put.kind_of.Goals as goal
 
 pub returns-in-Str : goal.returns-in-Str
 returns-in-Str c = sym (ap (λ (p : Payload). p.0) (payload-Str _ _ c.in-Str.is))

@@ -1,5 +1,5 @@
 -- Values that hold no document: what is read of them is spelled so, and what is spelled so is read, whatever follows.
-use Rattle.std.proofs.Common.{◌≡◌, ℕ, zero, suc, Bool, true, false, List, [], ◌∷◌, ◌++◌, length, Ok, refl, sym, ap, subst, ◌∙◌}
+use Rattle.std.proofs.Common.{◌≡◌, ℕ, zero, suc, Bool, true, false, List, [], ◌∷◌, ◌++◌, Ok, refl, sym, ap, subst, ◌∙◌}
 use Rattle.std.specs.Int.{w32, cast_signed}
 use Rattle.byteorder.specs.Endian.{little_number}
 use Rattle.bson_doc.specs.declared.ids.Oid.{Oid}
@@ -12,9 +12,9 @@ use Rattle.bson_wire.specs.declared.kind.Kind.TheVariants as kinds
 use Rattle.bson_wire.specs.declared.kind.PlainKind.{PlainKind}
 use Rattle.bson_wire.specs.declared.kind.PlainKind.TheVariants as plain
 use Rattle.bson_wire.specs.Spelling.{IsPayload, truth_byte}
-use Rattle.bson_wire.specs.Reading.{◌>>=◌, bytes_at, string_at, binary_at, regex_at, pointer_at, bool_at, int64_of, plain_at}
+use Rattle.bson_wire.specs.Reading.{bytes_at, string_at, binary_at, regex_at, pointer_at, bool_at, int64_of, plain_at}
 use Rattle.bson_wire.proofs.Steps.{ok_is, mapped-Ok}
-use Rattle.bson_wire.proofs.Fields.{Took, bytes_take, bytes_again, string_takes, string_again, binary_takes, binary_again, regex_takes, regex_again, pointer_takes, pointer_again}
+use Rattle.bson_wire.proofs.Fields.{bytes_take, bytes_again, string_takes, string_again, binary_takes, binary_again, regex_takes, regex_again, pointer_takes, pointer_again}
 
 -- what was taken for a value of a plain kind
 pub record TakesPlain (Inner : List ℕ → Document → Type 0) (kind : PlainKind) (bytes : List ℕ) (v : Value) (rest : List ℕ) : Type 0 where

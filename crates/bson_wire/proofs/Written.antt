@@ -1,26 +1,22 @@
 -- What is written of a value spells it, and how much it is.
-use Rattle.std.proofs.Common.{◌≡◌, ℕ, zero, suc, ℤ, ◌+◌, ◌-◌, ◌^◌, ◌%◌, ◌<◌, ◌≤◌, max, Bool, true, false, List, [], ◌∷◌, ◌++◌, length, take, drop, get_or, map, decimal, Result, Ok, Err, refl, sym, ap, subst, ◌∙◌, append_assoc, add-one, arith, inl, inr}
-use Rattle.std.specs.Prelude.{IsUtf8, FitsSigned, OnOk}
+use Rattle.std.proofs.Common.{◌≡◌, ℕ, zero, suc, ◌+◌, ◌-◌, ◌^◌, ◌%◌, ◌<◌, ◌≤◌, max, Bool, true, false, List, [], ◌∷◌, ◌++◌, length, take, drop, get_or, map, decimal, Result, Ok, Err, refl, sym, ap, subst, ◌∙◌, append_assoc, add-one, arith, inl, inr}
+use Rattle.std.specs.Prelude.{IsUtf8, OnOk}
 use Rattle.std.specs.List.{AllByRecursion}
-use Rattle.std.specs.Int.{w32, cast_signed, cast_unsigned, from_bool}
-use Rattle.std.proofs.Math.Facts.{Fits-of_z}
-use Rattle.std.proofs.lemmas.Int.{to_z-of_z}
+use Rattle.std.specs.Int.{from_bool}
 use Rattle.std.proofs.lemmas.List.{length-append, length-drop, take-append-le, drop-append-le, drop_more, get_or_append_left, get_or_push, length_push}
 use Rattle.std.proofs.lemmas.Bool.{ne_eqb, cases_lt}
 use Rattle.std.proofs.lemmas.Str.{IsUtf8-from_ascii}
 use Rattle.std.proofs.lemmas.Fmt.{IsAscii-decimal, decimal_by_steps}
-use Rattle.byteorder.specs.Endian.{little_number}
-use Rattle.byteorder.specs.Numbers.{little_number-reads_back}
 use Rattle.bson_doc.specs.Documents.{depth_inside, depth_of, greatest, value_step, document_step}
 use Rattle.bson_doc.specs.declared.name.Name.{Name}
 use Rattle.bson_doc.specs.declared.value.Document.{Document, fold_out-Document}
-use Rattle.bson_doc.specs.declared.value.Value.{Value, Value-F, map-Value, out-Value, fold_out-Value}
+use Rattle.bson_doc.specs.declared.value.Value.{Value, map-Value, out-Value, fold_out-Value}
 use Rattle.bson_doc.specs.declared.value.Value.TheVariants as value
 use Rattle.bson_doc.specs.declared.value.Value.TheVariants.{outs-Doc, outs-Array, outs-Scope}
 use Rattle.bson_wire.specs.declared.fault.EncodeFault.{EncodeFault}
 use Rattle.bson_wire.specs.declared.fault.EncodeFault.TheVariants as fault
-use Rattle.bson_wire.specs.Spelling.{IsNumber32, IsName, IsArray, IsScope, IsPayload, IsElement, AreElements, SpellsWithin, Spells, values, truth_byte}
-use Rattle.bson_wire.specs.Spelled.{Payload, number32, string, scope, document, element, numbered, payload, spelled_elements, spelled, spelled_items}
+use Rattle.bson_wire.specs.Spelling.{IsNumber32, IsName, IsArray, IsElement, AreElements, SpellsWithin, Spells, values, truth_byte}
+use Rattle.bson_wire.specs.Spelled.{number32, string, scope, document, element, numbered, payload, spelled_elements, spelled, spelled_items}
 use Rattle.bson_wire.specs.Written.{PayloadSpells, ElementSpells, Stops}
 use Rattle.bson_wire.proofs.Texts.{HasNoZero-from}
 use Rattle.bson_wire.proofs.Payloads.{payload-Doc, payload-Array, payload-Scope}
@@ -106,15 +102,18 @@ length-scope code d = omega (arith, length-append (string code) (spelled d))
 pub scope_spells : (v : Value) (code : List ℕ) (d : Document) → v ≡ value.Scope code d → IsUtf8 code → AllByRecursion ElementSpells d.elements → length (scope (string code) (spelled d)) ≤ 48000000 → PayloadSpells v
 scope_spells v code d e utf8 known small =
     let total : length (string code ++ spelled d) ≡ length (string code) + length (spelled d) = length-append (string code) (spelled d) in
-    spells_by v _ _ (payload-Scope v code d e) (ap out-Value e ∙ outs-Scope code d) (λ levels deep. (refl, record {
-      number = number32 (length (string code ++ spelled d) + 4);
-      string = string code;
-      document = spelled d;
-      counts = subst (IsNumber32 (number32 (length (string code ++ spelled d) + 4))) (ap (λ (n : ℕ). n + 4) total) (number32_is (length (string code ++ spelled d) + 4) (omega (arith, length-scope code d, total)));
-      parts = refl;
-      text = is_string code utf8 (omega (arith, length-scope code d));
-      inner = document_spells levels d known (omega (arith, length-scope code d)) (omega (arith, depth_inside-Scope v code d e));
-    }))
+    spells_by v _ _ (payload-Scope v code d e) (ap out-Value e ∙ outs-Scope code d) (λ levels deep. (
+      refl,
+      record {
+        number = number32 (length (string code ++ spelled d) + 4);
+        string = string code;
+        document = spelled d;
+        counts = subst (IsNumber32 (number32 (length (string code ++ spelled d) + 4))) (ap (λ (n : ℕ). n + 4) total) (number32_is (length (string code ++ spelled d) + 4) (omega (arith, length-scope code d, total)));
+        parts = refl;
+        text = is_string code utf8 (omega (arith, length-scope code d));
+        inner = document_spells levels d known (omega (arith, length-scope code d)) (omega (arith, depth_inside-Scope v code d e));
+      },
+    ))
 
 -- an array as the document that spells it
 abbrev numbered_elements : ℕ → List Value → List Element

@@ -53,17 +53,23 @@ pub fn put_plain(out: &mut Vec<u8>, value: &Value) -> Result<(), EncodeFault>
 {
     match value {
         Value::Double(raw) => put_double(out, raw),
-        Value::Str(text) | Value::Code(text) | Value::Symbol(text) => put_string(out, text.as_str()),
+        Value::Str(text) => put_string(out, text.as_str()),
         Value::Binary { subtype, bytes } => put_binary(out, *subtype, bytes.as_slice()),
+        Value::Undefined => Ok(()),
         Value::Oid(id) => put_oid(out, id),
         Value::Bool(truth) => put_byte(out, u8::from(*truth)),
-        Value::Date(n) | Value::Int64(n) => put_int64(out, n),
+        Value::Date(n) => put_int64(out, n),
+        Value::Null => Ok(()),
         Value::Regex { pattern, options } => put_regex(out, pattern, options),
         Value::DbPointer { space, oid } => put_pointer(out, space.as_str(), oid),
+        Value::Code(text) => put_string(out, text.as_str()),
+        Value::Symbol(text) => put_string(out, text.as_str()),
         Value::Int32(n) => put_int32(out, n),
         Value::Stamp(n) => put_stamp(out, n),
+        Value::Int64(n) => put_int64(out, n),
         Value::Decimal(raw) => put_decimal(out, raw),
-        Value::Undefined | Value::Null | Value::Min | Value::Max => Ok(()),
+        Value::Max => Ok(()),
+        Value::Min => Ok(()),
         Value::Doc(_) | Value::Array(_) | Value::Scope { .. } => unreachable!(),
     }
 }
@@ -160,7 +166,7 @@ fn put_pointer(out: &mut Vec<u8>, space: &str, oid: &Oid) -> Result<(), EncodeFa
     ensures ok { OnOk result (out.new.items ≡ out.old.items ++ (string space.now ++ oid.now.0)) }
     ensures size { OnOk result (length (string space.now) ≤ 48000000) }
     ensures long { IfErr result (Stops (length (string space.now ++ oid.now.0))) }
-    ensures twelve { length oid.now.0 ≡ 12 }
+    ensures twelve { OnOk result (length oid.now.0 ≡ 12) }
 {
     put_string(out, space)?;
     put_oid(out, oid)

@@ -17,15 +17,19 @@
 mod decoding;
 mod encoding;
 mod fault;
+mod fixed;
 mod kind;
 mod laws;
 mod limits;
 mod parts;
 mod plain;
+mod plain_put;
 mod put;
 mod reading;
+mod span;
 #[cfg(test)]
 mod tests;
+mod varying;
 mod writing;
 
 pub use decoding::decode;

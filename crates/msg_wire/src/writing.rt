@@ -1,8 +1,8 @@
-ghost use Rattle.std.specs.Prelude.{◌≡◌, ◌+◌, ◌≤◌, ◌<◌, ◌++◌, length, None, IfOk, OnOk, IfErr};
+ghost use Rattle.std.specs.Prelude.{◌≡◌, ◌+◌, ◌≤◌, ◌<◌, ◌++◌, length, false, None, IfOk, OnOk, IfErr};
 ghost use Rattle.std.specs.Int.{w32, cast_unsigned};
 ghost use Rattle.bson_doc.specs.Documents.{depth_of};
 ghost use Rattle.bson_wire.specs.Spelled.{int32};
-ghost use Rattle.msg_wire.specs.Flags.{refused_bit};
+ghost use Rattle.msg_wire.specs.Flags.{refused_bit, is_set};
 ghost use Rattle.msg_wire.specs.Framing.{Framed, frame, framing, header, message_of};
 
 use crate::limits::{FRONT, MOST_BYTES, OP_MSG};
@@ -21,7 +21,8 @@ pub fn write(
     flags: u32,
     body: &Document,
 ) -> Result<Bytes, EncodeFault>
-    requires { refused_bit flags ≡ None }
+    requires known { refused_bit flags ≡ None }
+    requires no_checksum { is_set flags 0 ≡ false }
     ensures ok { IfOk result (λ bytes. bytes ≡ frame id to flags body.now) }
     ensures framed { IfOk result (λ bytes. Framed bytes (message_of id to flags body.now)) }
 

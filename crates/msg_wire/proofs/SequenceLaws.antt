@@ -2,7 +2,7 @@
 use Rattle.std.proofs.Common.{◌≡◌, ℕ, ◌+◌, ◌-◌, ◌≤◌, ◌<◌, false, ltb, ◌||◌, List, [], ◌∷◌, ◌++◌, length, take, drop, Ok, Err, refl, sym, ap, subst, ◌∙◌, append_assoc, arith, length-append}
 use Rattle.std.proofs.lemmas.Bool.{ltb-false, le-ltb, or_parts, or_from}
 use Rattle.std.proofs.lemmas.List.{take_at, drop_at, take-append-drop, length-take-le}
-use Rattle.bson_wire.specs.Spelling.{IsInt32}
+use Rattle.bson_wire.specs.Spelling.{IsNumber32}
 use Rattle.msg_wire.specs.Fields.{number_at}
 use Rattle.msg_wire.specs.Framing.{IsSequence}
 use Rattle.msg_wire.specs.Sections.{documents_at, name_at, sequence_at, size_at}

@@ -4,8 +4,8 @@ use Rattle.std.specs.Prelude.{◌≡◌, ℕ, ℤ, ◌+◌, ◌≤◌, List, [],
 use Rattle.std.specs.Int.{w32, cast_signed, cast_unsigned}
 use Rattle.byteorder.specs.Endian.{little_number}
 use Rattle.bson_doc.specs.declared.value.Document.{Document}
-use Rattle.bson_wire.specs.Spelling.{IsInt32, IsName, Spells}
-use Rattle.bson_wire.specs.Spelled.{int32, spelled}
+use Rattle.bson_wire.specs.Spelling.{IsNumber32, IsName, Spells}
+use Rattle.bson_wire.specs.Spelled.{number32, spelled}
 use Rattle.msg_wire.specs.Flags.{refused_bit, checksum_size}
 use Rattle.msg_wire.specs.declared.message.Message.{Message}
 use Rattle.msg_wire.specs.declared.sequence.Sequence.{Sequence}
@@ -23,10 +23,10 @@ pub record IsHeader (bytes : List ℕ) (total : ℕ) (id to : ℤ) : Type 0 wher
   pub to_field : List ℕ
   pub code_field : List ℕ
   pub parts : bytes ≡ total_field ++ (id_field ++ (to_field ++ code_field))
-  pub is_total : IsInt32 total_field total
+  pub is_total : IsNumber32 total_field total
   pub is_id : IsSigned id_field id
   pub is_to : IsSigned to_field to
-  pub is_code : IsInt32 code_field 2013
+  pub is_code : IsNumber32 code_field 2013
 
 -- A section of kind 0: the byte 00 and one document (MongoDB wire protocol, OP_MSG, Sections, Kind 0: Body).
 pub record IsBody (bytes : List ℕ) (document : Document) : Type 0 where
@@ -46,7 +46,7 @@ pub record IsSequence (bytes : List ℕ) (sequence : Sequence) : Type 0 where
   pub size : List ℕ
   pub documents : List ℕ
   pub parts : bytes ≡ 1 ∷ (size ++ (sequence.name ++ 0 ∷ documents))
-  pub counts : IsInt32 size (4 + length sequence.name + 1 + length documents)
+  pub counts : IsNumber32 size (4 + length sequence.name + 1 + length documents)
   pub is_name : IsName sequence.name
   pub are_documents : AreDocuments documents sequence.docs
 
@@ -80,7 +80,7 @@ pub record Framed (bytes : List ℕ) (message : Message) : Type 0 where
   pub checksum : List ℕ
   pub parts : bytes ≡ header ++ (flags ++ (sections ++ checksum))
   pub is_header : IsHeader header (length bytes) message.id message.to
-  pub is_flags : IsInt32 flags message.flags
+  pub is_flags : IsNumber32 flags message.flags
   pub known : refused_bit message.flags ≡ None
   pub are_sections : AreSections sections message.body message.sequences
   pub is_checksum : length checksum ≡ checksum_size message.flags
@@ -89,12 +89,12 @@ pub record Framed (bytes : List ℕ) (message : Message) : Type 0 where
 
 -- The header of a message of so many bytes (MongoDB wire protocol, Standard Message Header).
 unfoldable pub header : ℕ → ℤ → ℤ → List ℕ
-header total id to = int32 total ++ int32 (cast_unsigned w32 id) ++ int32 (cast_unsigned w32 to) ++ int32 2013
+header total id to = number32 total ++ number32 (cast_unsigned w32 id) ++ number32 (cast_unsigned w32 to) ++ number32 2013
 
 -- The header, flagBits, and one section of kind 0 with these bytes of a document (MongoDB wire protocol, OP_MSG). In
 -- front of them stand 21 bytes.
 unfoldable pub framing : ℤ → ℤ → ℕ → List ℕ → List ℕ
-framing id to flags spelling = header (length spelling + 21) id to ++ int32 flags ++ 0 ∷ spelling
+framing id to flags spelling = header (length spelling + 21) id to ++ number32 flags ++ 0 ∷ spelling
 
 -- The bytes of the message with one section of kind 0, which holds the document in its one spelling (MongoDB wire
 -- protocol, OP_MSG).

@@ -8,17 +8,22 @@
 //! Calls that allocate take an allocator first.
 #![tactic(auto)]
 
+mod column;
 mod fault;
 mod field_name;
+mod readers;
+mod reply;
 mod server_description;
 mod server_kind;
 mod tag;
+mod versions;
 
 pub use fault::ReplyFault;
 pub use field_name::FieldName;
 pub use server_description::ServerDescription;
 pub use server_kind::ServerKind;
 pub use tag::Tag;
+pub use versions::compare_version;
 
 /// Want of memory, the error of calls that can fail in no other way.
 pub type Memory = std::alloc::AllocError;

@@ -1,9 +1,8 @@
 -- What a value must be in a column of the table of fields, and what it means there (SDAM, ServerDescription; bsonspec 1.1,
 -- element). Each meaning is none where the value does not belong in the column.
-use Rattle.std.specs.Prelude.{ℕ, ℤ, Bool, ◌&&◌, int_le, List, [], ◌∷◌, Option, None, Some, is_some, codes, if◌then◌else◌}
+use Rattle.std.specs.Prelude.{ℕ, ℤ, ◌≤ℤ◌, Bool, ◌&&◌, int_le, List, Option, None, Some, is_some, codes, if◌then◌else◌}
 use Rattle.std.specs.Option.{option_and_then}
 use Rattle.std.specs.Result.{result_ok}
-
 use Rattle.bson_doc.specs.Documents.{value_of}
 use Rattle.bson_doc.specs.declared.ids.Oid.{Oid}
 use Rattle.bson_doc.specs.declared.name.Name.{Name}
@@ -93,6 +92,11 @@ version_of v = option_and_then version_in (elements_of v)
 abbrev pub whole_in : Column → Value → Option ℤ
 whole_in (column.Whole least most) v = option_and_then (within least most) (whole_of v)
 whole_in _ v = None
+
+-- The number lies within the column's bounds.
+abbrev pub IsWithin : Column → ℤ → Type 0
+IsWithin (column.Whole least most) n = (least ≤ℤ n) × (n ≤ℤ most)
+IsWithin _ n = ⊥
 
 -- Whether the value belongs in the column.
 abbrev pub fits : Column → Value → Bool

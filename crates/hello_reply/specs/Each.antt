@@ -1,5 +1,5 @@
 -- A list of which each item has a meaning, or none at all (own).
-use Rattle.std.specs.Prelude.{List, [], ◌∷◌, Option, None, Some}
+use Rattle.std.specs.Prelude.{List, [], ◌∷◌, Option, Some}
 use Rattle.std.specs.Option.{option_map, option_and_then}
 
 -- What the items mean, in order, where each has a meaning; none where one has none.

@@ -41,10 +41,26 @@ name_of field.MaxBsonObjectSize = codes "maxBsonObjectSize"
 name_of field.MaxMessageSizeBytes = codes "maxMessageSizeBytes"
 name_of field.MaxWriteBatchSize = codes "maxWriteBatchSize"
 
--- What the field's value must be (SDAM, ServerDescription; own: the bounds).
+-- Whole numbers of 64 and of 32 bits, minutes, counts of bytes and counts of documents (own: the bounds).
+abbrev pub whole : Column
+whole = column.Whole (negsuc 9223372036854775807) (pos 9223372036854775807)
+
+abbrev pub short : Column
+short = column.Whole (negsuc 2147483647) (pos 2147483647)
+
+abbrev pub minutes : Column
+minutes = column.Whole (pos 0) (pos 1000000)
+
+abbrev pub bytes : Column
+bytes = column.Whole (pos 1) (pos 48000000)
+
+abbrev pub documents : Column
+documents = column.Whole (pos 1) (pos 100000)
+
+-- What the field's value must be (SDAM, ServerDescription).
 abbrev pub column_of : FieldName → Column
 column_of field.SetName = column.Text
-column_of field.SetVersion = column.Whole (negsuc 9223372036854775807) (pos 9223372036854775807)
+column_of field.SetVersion = whole
 column_of field.ElectionId = column.ObjectId
 column_of field.Primary = column.Host
 column_of field.Me = column.Host
@@ -52,13 +68,13 @@ column_of field.Hosts = column.Hosts
 column_of field.Passives = column.Hosts
 column_of field.Arbiters = column.Hosts
 column_of field.Tags = column.Tags
-column_of field.MinWireVersion = column.Whole (negsuc 2147483647) (pos 2147483647)
-column_of field.MaxWireVersion = column.Whole (negsuc 2147483647) (pos 2147483647)
-column_of field.LogicalSessionTimeoutMinutes = column.Whole (pos 0) (pos 1000000)
+column_of field.MinWireVersion = short
+column_of field.MaxWireVersion = short
+column_of field.LogicalSessionTimeoutMinutes = minutes
 column_of field.TopologyVersion = column.Version
-column_of field.MaxBsonObjectSize = column.Whole (pos 1) (pos 48000000)
-column_of field.MaxMessageSizeBytes = column.Whole (pos 1) (pos 48000000)
-column_of field.MaxWriteBatchSize = column.Whole (pos 1) (pos 100000)
+column_of field.MaxBsonObjectSize = bytes
+column_of field.MaxMessageSizeBytes = bytes
+column_of field.MaxWriteBatchSize = documents
 
 -- Null says as much as no field at all.
 abbrev pub not_null : Value → Option Value

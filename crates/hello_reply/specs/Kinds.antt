@@ -1,5 +1,5 @@
 -- What kind of server a reply comes from (SDAM, Parsing a hello response, type).
-use Rattle.std.specs.Prelude.{ℕ, ℤ, pos, Bool, false, ◌==◌, List, [], ◌∷◌, Option, None, Some, is_some, codes, if◌then◌else◌}
+use Rattle.std.specs.Prelude.{ℕ, pos, Bool, false, ◌==◌, List, [], ◌∷◌, is_some, codes, if◌then◌else◌}
 use Rattle.std.specs.Cmp.Lexicographic.{pointwise}
 use Rattle.std.specs.Ordering.{int_eq}
 use Rattle.std.specs.Option.{option_map_or}
@@ -37,6 +37,10 @@ abbrev pub is_text : List ℕ → Value → Bool
 is_text text (value.Str found) = pointwise ◌==◌ found text
 is_text text _ = false
 
+-- The reply is a router's: its msg is "isdbgrid".
+abbrev pub is_router : List (Name × Value) → Bool
+is_router es = option_map_or (is_text (codes "isdbgrid")) (value_of (codes "msg") es) false
+
 -- A member of a replica set. A hidden one counts as Other, whatever else it is (SDAM: hidden members are RSOther).
 abbrev pub member_kind : List (Name × Value) → ServerKind
 member_kind es =
@@ -51,5 +55,5 @@ abbrev pub kind_of : List (Name × Value) → ServerKind
 kind_of es =
     if says (codes "isreplicaset") es then kind.Ghost
     else (if is_some (given field.SetName es) then member_kind es
-    else (if option_map_or (is_text (codes "isdbgrid")) (value_of (codes "msg") es) false then kind.Mongos
+    else (if is_router es then kind.Mongos
     else kind.Standalone))

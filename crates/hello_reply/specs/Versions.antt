@@ -1,5 +1,5 @@
 -- Which of two topology versions is the older (SDAM, Topology Version comparison).
-use Rattle.std.specs.Prelude.{ℕ, ◌==◌, Option, None, Some, if◌then◌else◌}
+use Rattle.std.specs.Prelude.{◌==◌, Option, Some, if◌then◌else◌}
 use Rattle.std.specs.Cmp.Lexicographic.{pointwise}
 use Rattle.std.specs.Ordering.{int_cmp}
 use Rattle.std.specs.declared.cmp.Ordering.{Ordering}

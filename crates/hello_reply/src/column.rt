@@ -1,6 +1,6 @@
 /// What a field's value must be.
 #[derive(Clone, Copy, Debug, PartialEq, Eq)]
-pub enum Column {
+pub(crate) enum Column {
     /// A string.
     Text,
     /// An int32 or int64 within bounds.

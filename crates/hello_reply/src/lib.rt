@@ -9,15 +9,22 @@
 #![tactic(auto)]
 
 mod column;
+mod copies;
+mod defaults;
+mod describing;
 mod fault;
 mod field_name;
+mod fields;
+mod kinds;
+mod listed;
 mod readers;
-mod reply;
 mod server_description;
 mod server_kind;
 mod tag;
 mod versions;
 
+pub use defaults::default_unknown;
+pub use describing::describe;
 pub use fault::ReplyFault;
 pub use field_name::FieldName;
 pub use server_description::ServerDescription;

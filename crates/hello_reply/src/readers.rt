@@ -1,8 +1,8 @@
 //! One reader for each kind of column: what a value means in it, None where the value does not belong there.
-ghost use Rattle.std.specs.Prelude.{◌≡◌, IfOk, codes};
+ghost use Rattle.std.specs.Prelude.{◌≡◌, ◌≤ℤ◌, IfOk, IfSome, codes};
 ghost use Rattle.std.specs.Option.{option_map, option_and_then};
 ghost use Rattle.bson_doc.specs.Documents.{value_of};
-ghost use Rattle.hello_reply.specs.Columns.{text_of, whole_of, whole_in as whole_in_column, within as number_within, oid_of, long_of, host_of, hosts_of, tag_of, tags_of, version_of, fits as fits_column};
+ghost use Rattle.hello_reply.specs.Columns.{IsWithin, text_of, whole_of, whole_in as whole_in_column, within as number_within, oid_of, long_of, host_of, hosts_of, tag_of, tags_of, version_of, fits as fits_column};
 ghost use Rattle.hello_reply.specs.Each.{each_or_none};
 
 use crate::column::Column;
@@ -23,7 +23,8 @@ pub(crate) fn text_in(value: &Value) -> Option<&Text>
 
 /// A whole number within the column's bounds.
 pub(crate) fn whole_in(column: Column, value: &Value) -> Option<i64>
-    ensures { result ≡ whole_in_column column value.now }
+    ensures value { result ≡ whole_in_column column value.now }
+    ensures bounds { IfSome result (IsWithin column) }
 {
     let Column::Whole { least, most } = column else {
         return None;
@@ -35,8 +36,10 @@ pub(crate) fn whole_in(column: Column, value: &Value) -> Option<i64>
     }
 }
 
+/// The number, if it lies from the least to the most.
 fn within(least: i64, most: i64, n: i64) -> Option<i64>
-    ensures { result ≡ number_within least most n }
+    ensures value { result ≡ number_within least most n }
+    ensures bounds { IfSome result (λ n. (least ≤ℤ n) × (n ≤ℤ most)) }
 {
     if least <= n && n <= most {
         Some(n)

@@ -1,9 +1,6 @@
-ghost use Rattle.std.specs.Prelude.{◌≡◌, IfOk};
-
-use crate::{Memory, ServerKind, Tag};
+use crate::{ServerKind, Tag};
 use bson_doc::{Oid, Rows, Text, TopologyVersion};
 use host_name::Host;
-use std::alloc::Global;
 
 /// What is known of a server (SDAM, ServerDescription).
 ///

@@ -1,7 +1,8 @@
 //! What a reply says in each field, by the kind of its column; None where the field is absent, Null or at fault.
-ghost use Rattle.std.specs.Prelude.{◌≡◌, ◌≤ℤ◌, IfOk, IfSome};
+ghost use Rattle.std.specs.Prelude.{◌≡◌, ◌⊎◌, IfOk, IfSome, find};
 ghost use Rattle.std.specs.Option.{option_copied};
-ghost use Rattle.hello_reply.specs.Fields.{given as given_at, is_at_fault as has_fault, first_fault as fault_of, text_at, whole_at, oid_at, host_at, hosts_at, tags_at, version_at, size_at};
+ghost use Rattle.hello_reply.specs.Fields.{given as given_at, is_at_fault as has_fault, first_fault as fault_of, text_at, whole_at, oid_at, host_at, hosts_at, tags_at, version_at, size_at, column_of, short as short_column, bytes, documents};
+ghost use Rattle.hello_reply.specs.Columns.{IsWithin};
 
 use crate::field_name::FIELDS;
 use crate::readers::{fits, host_in, hosts_in, oid_in, tags_in, text_in, version_in, whole_in};
@@ -14,9 +15,20 @@ use std::alloc::Global;
 pub(crate) fn first_fault(alloc: Global, reply: &Document) -> Result<Option<FieldName>, Memory>
     ensures { IfOk result (λ o. o ≡ fault_of reply.now.elements) }
 {
-    for field in FIELDS {
-        if is_at_fault(alloc, reply, field)? {
-            return Ok(Some(field));
+    first_among(alloc, reply, &FIELDS)
+}
+
+/// The first of these fields that is at fault.
+fn first_among(
+    alloc: Global,
+    reply: &Document,
+    fields: &[FieldName],
+) -> Result<Option<FieldName>, Memory>
+    ensures { IfOk result (λ o. o ≡ find (λ f. has_fault f reply.now.elements) fields.now) }
+{
+    for field in fields {
+        if is_at_fault(alloc, reply, *field)? {
+            return Ok(Some(*field));
         }
     }
     Ok(None)
@@ -42,7 +54,11 @@ pub(crate) fn given(reply: &Document, field: FieldName) -> Option<&Value>
 }
 
 /// The text of a field that is a string.
-pub(crate) fn text(alloc: Global, reply: &Document, field: FieldName) -> Result<Option<Text>, Memory>
+pub(crate) fn text(
+    alloc: Global,
+    reply: &Document,
+    field: FieldName,
+) -> Result<Option<Text>, Memory>
     ensures { IfOk result (λ o. o ≡ text_at field reply.now.elements) }
 {
     let Some(value) = given(reply, field) else {
@@ -56,9 +72,28 @@ pub(crate) fn text(alloc: Global, reply: &Document, field: FieldName) -> Result<
 
 /// The number of a field that is a whole number.
 pub(crate) fn whole(reply: &Document, field: FieldName) -> Option<i64>
-    ensures { result ≡ whole_at field reply.now.elements }
+    ensures value { result ≡ whole_at field reply.now.elements }
+    ensures bounds { IfSome result (IsWithin (column_of field)) }
 {
     whole_in(field.column(), given(reply, field)?)
+}
+
+/// The number of a field that is a whole number of 32 bits.
+pub(crate) fn short(reply: &Document, field: FieldName) -> Option<i32>
+    requires { column_of field ≡ short_column }
+    ensures { result ≡ whole_at field reply.now.elements }
+{
+    let number = whole(reply, field)?;
+    Some(number as i32)
+}
+
+/// The number of a field that is a count of bytes or documents.
+pub(crate) fn size(reply: &Document, field: FieldName) -> Option<u32>
+    requires { (column_of field ≡ bytes) ⊎ (column_of field ≡ documents) }
+    ensures { result ≡ size_at field reply.now.elements }
+{
+    let number = whole(reply, field)?;
+    Some(number as u32)
 }
 
 /// The ObjectId of a field that is one.
@@ -69,7 +104,11 @@ pub(crate) fn oid(reply: &Document, field: FieldName) -> Option<Oid>
 }
 
 /// The host of a field that spells one.
-pub(crate) fn host(alloc: Global, reply: &Document, field: FieldName) -> Result<Option<Host>, Memory>
+pub(crate) fn host(
+    alloc: Global,
+    reply: &Document,
+    field: FieldName,
+) -> Result<Option<Host>, Memory>
     ensures { IfOk result (λ o. o ≡ host_at field reply.now.elements) }
 {
     match given(reply, field) {

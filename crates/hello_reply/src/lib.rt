@@ -21,6 +21,8 @@ mod readers;
 mod server_description;
 mod server_kind;
 mod tag;
+#[cfg(test)]
+mod tests;
 mod versions;
 
 pub use defaults::default_unknown;

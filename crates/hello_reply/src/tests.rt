@@ -2,6 +2,7 @@
 
 mod columns;
 mod lists;
+pub mod replies;
 mod servers;
-pub mod text;
+pub mod shown;
 mod versions;

@@ -22,7 +22,7 @@ abbrev pub is_text : List ℕ → List ℕ → Bool
 is_text name other = pointwise ◌==◌ name other
 
 -- The members that an insert has.
-abbrev pub is_known : List ℕ → Bool
+unfoldable pub is_known : List ℕ → Bool
 is_known name = is_text name (codes "lane") || (is_text name (codes "op") || (is_text name (codes "coll") || (is_text name (codes "db") || is_text name (codes "doc"))))
 
 -- Each member is one of them.

@@ -18,6 +18,7 @@ use std::alloc::Global;
 const LANES: u64 = 64;
 
 /// The command that a JSON value is, or its first fault.
+#[tactic(auto, unfolding(crate::specs::Commands::command_from))]
 pub fn command_of(alloc: Global, value: &Value) -> Result<Command, LineStop>
     ensures ok { IfOk result (λ c. command_from (view value.now) ≡ Ok c) }
     ensures stop { IfErr result (λ s. Stops s (command_from (view value.now))) }
@@ -100,6 +101,7 @@ fn are_all_known(members: &Map<String, Value>) -> bool
 }
 
 /// Whether a line may have a member of that name.
+#[tactic(auto, unfolding(crate::specs::Commands::is_known))]
 fn is_member(name: &str) -> bool
     ensures { result ≡ is_known name.now }
 {

@@ -33,6 +33,7 @@ pub fn read_script<S: Source>(alloc: Global, source: &mut S) -> Result<Rows<Comm
 }
 
 /// The commands of a text, or its first fault. A text that is too long is so before any line is read.
+#[tactic(auto, unfolding(crate::specs::Scripts::script_reading))]
 fn read_text(alloc: Global, text: &[u8]) -> Result<Rows<Command>, ScriptRead>
     requires { length text.now ≤ most_bytes + 1 }
     ensures answers { Answers result text.now }

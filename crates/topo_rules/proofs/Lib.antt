@@ -1,0 +1,2 @@
+pub mod HostOrder
+pub mod Places

@@ -1,2 +1,4 @@
 pub mod HostOrder
+pub mod HostTables
 pub mod Places
+pub mod Tabulate

@@ -16,6 +16,7 @@ mod cell;
 mod change;
 mod event;
 mod kind;
+mod kinds;
 mod maxima;
 mod primary;
 mod rules;

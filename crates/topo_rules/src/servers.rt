@@ -1,13 +1,19 @@
-ghost use Rattle.std.specs.Prelude.{◌≡◌, option_copied, option_map, OnOk, OnErr, IfOk, slice_get};
+ghost use Rattle.std.specs.Prelude.{◌≡◌, option_copied, OnOk, OnErr, IfOk, slice_get};
 ghost use Rattle.std.specs.FinMap as map;
 ghost use Rattle.std.specs.Arc.{arc_value};
+ghost use Rattle.hello_reply.specs.Descriptions.{default_unknown_of};
+ghost use Rattle.topo_rules.specs.Maps.{tabulate, known_or_new, joined, under, reign};
+ghost use Rattle.topo_rules.specs.Seen.{seen};
 
 use crate::Memory;
-use crate::table::{Shared, Table};
+use crate::kinds::is_primary;
+use crate::table::{Shared, Table, append, append_at, unknown};
 use hello_reply::ServerDescription;
 use host_name::Host;
+use indexmap::IndexMap;
 use std::alloc::Global;
 use std::marker::Model;
+use std::sync::Arc;
 
 /// The servers of a topology, by host, in the order of hosts. Descriptions are shared with the topologies before, so that
 /// a copy takes no memory for them.
@@ -37,10 +43,140 @@ impl Model for Servers {
 }
 
 impl Servers {
+    /// The servers of a table, put in order.
+    pub fn sorted(mut table: Table) -> Result<Servers, Memory>
+        ensures { IfOk result (λ servers. servers ≡ seen table.entries) }
+    {
+        table.sort_keys()?;
+        Ok(Servers { table })
+    }
+
     /// How many servers there are.
     pub fn len(&self) -> usize
         ensures { result ≡ map.len self.now }
     {
         self.table.len()
+    }
+
+    /// What is known of the server at a host.
+    pub fn get(&self, host: &Host) -> Option<&ServerDescription>
+        ensures { option_copied result ≡ map.get self.now host.now }
+    {
+        match self.table.get(host) {
+            Some(shared) => Some(&**shared),
+            None => None,
+        }
+    }
+
+    /// What is known of the server at a place in the order of hosts.
+    pub fn at(&self, place: usize) -> Option<&ServerDescription>
+        ensures { option_copied result ≡ slice_get (map.values self.now) place }
+    {
+        match self.table.get_index(place) {
+            Some((_, shared)) => Some(&**shared),
+            None => None,
+        }
+    }
+
+    /// Puts a description at a host.
+    pub fn put(&mut self, alloc: Global, host: &Host, description: Shared) -> Result<(), Memory>
+        ensures ok { OnOk result (self.new ≡ map.insert self.old host.now (arc_value description)) }
+        ensures err { OnErr result (self.new ≡ self.old) }
+    {
+        let key = host.copy(alloc)?;
+        self.table.insert_sorted(key, description)?;
+        Ok(())
+    }
+
+    /// Removes a host, if it is there.
+    pub fn remove(&mut self, host: &Host)
+        ensures { self.new ≡ map.remove self.old host.now }
+    {
+        let _removed = self.table.shift_remove(host);
+    }
+
+    /// What is known of a host, to be shared; a default Unknown where it is not there.
+    fn known(&self, alloc: Global, host: &Host) -> Result<Shared, Memory>
+        ensures { IfOk result (λ shared. arc_value shared ≡ known_or_new self.now host.now) }
+    {
+        match self.table.get(host) {
+            Some(shared) => {
+                let shared = Arc::try_clone(shared)?;
+                Ok(shared)
+            }
+            None => {
+                let shared = unknown(alloc, host)?;
+                Ok(shared)
+            }
+        }
+    }
+
+    /// The servers' table, in the order of hosts.
+    fn copied(&self, alloc: Global) -> Result<Table, Memory>
+        ensures { IfOk result (λ table. seen table.entries ≡ self.now) }
+    {
+        let mut table = IndexMap::with_capacity(alloc, self.table.len())?;
+        for place in 0..self.table.len() {
+            append_at(alloc, &mut table, &self.table, place)?;
+        }
+        Ok(table)
+    }
+
+    /// Equal servers, which share their descriptions with these.
+    pub fn copy(&self, alloc: Global) -> Result<Servers, Memory>
+        ensures { IfOk result (λ servers. servers ≡ self.now) }
+    {
+        let table = self.copied(alloc)?;
+        Servers::sorted(table)
+    }
+
+    /// The servers of these hosts, each a default Unknown.
+    pub fn of_hosts(alloc: Global, hosts: &[Host]) -> Result<Servers, Memory>
+        ensures { IfOk result (λ servers. servers ≡ tabulate hosts.now default_unknown_of) }
+    {
+        let mut table = IndexMap::new(alloc);
+        for host in hosts {
+            let description = unknown(alloc, host)?;
+            append(alloc, &mut table, host, description)?;
+        }
+        Servers::sorted(table)
+    }
+
+    /// These servers, and a default Unknown for each host that is not there.
+    pub fn joined(&self, alloc: Global, hosts: &[Host]) -> Result<Servers, Memory>
+        ensures { IfOk result (λ servers. servers ≡ joined self.now hosts.now) }
+    {
+        let mut table = self.copied(alloc)?;
+        for host in hosts {
+            let description = self.known(alloc, host)?;
+            append(alloc, &mut table, host, description)?;
+        }
+        Servers::sorted(table)
+    }
+
+    /// What stands of a host once the primary reigns.
+    fn under(&self, alloc: Global, primary: &Shared, host: &Host) -> Result<Shared, Memory>
+        ensures { IfOk result (λ shared. arc_value shared ≡ under self.now (arc_value primary.now) host.now) }
+    {
+        if *host == primary.host {
+            return Arc::try_clone(primary);
+        }
+        let description = self.known(alloc, host)?;
+        if is_primary(&description) {
+            return unknown(alloc, host);
+        }
+        Ok(description)
+    }
+
+    /// The servers that the primary lists, and no others.
+    pub fn reign(&self, alloc: Global, primary: &Shared) -> Result<Servers, Memory>
+        ensures { IfOk result (λ servers. servers ≡ reign self.now (arc_value primary.now)) }
+    {
+        let mut table = IndexMap::new(alloc);
+        for host in primary.listed.as_slice() {
+            let description = self.under(alloc, primary, host)?;
+            append(alloc, &mut table, host, description)?;
+        }
+        Servers::sorted(table)
     }
 }

@@ -11,7 +11,6 @@
 //! Calls that allocate take an allocator first, and answer [`Memory`] where they get none: the topology is then as it was.
 #![tactic(auto)]
 
-mod alike;
 mod cell;
 mod change;
 mod event;
@@ -19,7 +18,9 @@ mod kind;
 mod kinds;
 mod maxima;
 mod primary;
+mod readings;
 mod rules;
+mod same;
 mod servers;
 mod table;
 #[cfg(test)]

@@ -1,13 +1,19 @@
-ghost use Rattle.std.specs.Prelude.{◌≡◌, option_copied, OnOk, OnErr, IfOk, slice_get};
+ghost use Rattle.std.specs.Prelude.{◌≡◌, ◌∷◌, [], ◌++◌, ◌↔◌, option_copied, option_map, OnOk, OnErr, IfOk, IsTrue, is_some, slice_get, if◌then◌else◌};
+ghost use Rattle.std.specs.Option.{option_map_or};
 ghost use Rattle.std.specs.FinMap as map;
 ghost use Rattle.std.specs.Arc.{arc_value};
 ghost use Rattle.hello_reply.specs.Descriptions.{default_unknown_of};
-ghost use Rattle.topo_rules.specs.Maps.{tabulate, known_or_new, joined, under, reign};
+ghost use Rattle.topo_rules.specs.Changes.{hosts_beyond, plain};
+ghost use Rattle.topo_rules.specs.Maps.{tabulate, known_or_new, joined, under, reign, has_primary};
+ghost use Rattle.topo_rules.specs.Readings.{misfit_of, session_minutes_of};
 ghost use Rattle.topo_rules.specs.Seen.{seen};
 
 use crate::Memory;
 use crate::kinds::is_primary;
+use crate::readings::{first_misfit, least_minutes, some_is_primary};
+use crate::same::is_same_but_mean;
 use crate::table::{Shared, Table, append, append_at, unknown};
+use bson_doc::Rows;
 use hello_reply::ServerDescription;
 use host_name::Host;
 use indexmap::IndexMap;
@@ -178,5 +184,95 @@ impl Servers {
             append(alloc, &mut table, host, description)?;
         }
         Servers::sorted(table)
+    }
+
+    /// Whether some server is a primary.
+    pub fn has_primary(&self) -> bool
+        ensures { result ≡ has_primary self.now }
+    {
+        some_is_primary(&self.table)
+    }
+
+    /// The misfit of the least host.
+    pub fn misfit(&self) -> Option<&ServerDescription>
+        ensures { option_copied result ≡ misfit_of self.now }
+    {
+        first_misfit(&self.table)
+    }
+
+    /// The least session timeout of the data-bearing servers, in minutes.
+    pub fn session_minutes(&self) -> Option<i64>
+        ensures { result ≡ session_minutes_of self.now }
+    {
+        least_minutes(&self.table)
+    }
+
+    /// The host at a place in the order of hosts, with what is known of it.
+    fn entry_at(&self, place: usize) -> Option<(&Host, &ServerDescription)>
+        ensures { option_map (λ e. (e.0.now, e.1.now)) result ≡ slice_get (map.entries self.now) place }
+    {
+        match self.table.get_index(place) {
+            Some((host, shared)) => Some((host, &**shared)),
+            None => None,
+        }
+    }
+
+    /// Appends the host at a place, unless the other servers have it too.
+    fn note_beyond(
+        &self,
+        alloc: Global,
+        other: &Servers,
+        place: usize,
+        hosts: &mut Rows<Host>,
+    ) -> Result<(), Memory>
+        ensures { OnOk result (hosts.new ≡ option_map_or (λ e. if is_some (map.get other.now e.0) then hosts.old else hosts.old ++ e.0 ∷ []) (slice_get (map.entries self.now) place) hosts.old) }
+    {
+        let Some((host, _)) = self.entry_at(place) else {
+            return Ok(());
+        };
+        if other.get(host).is_some() {
+            return Ok(());
+        }
+        let host = host.copy(alloc)?;
+        hosts.push(host)
+    }
+
+    /// The hosts that the other servers do not have, in order.
+    pub fn hosts_beyond(&self, alloc: Global, other: &Servers) -> Result<Rows<Host>, Memory>
+        ensures { IfOk result (λ hosts. hosts ≡ hosts_beyond self.now other.now) }
+    {
+        let mut hosts = Rows::new(alloc);
+        for place in 0..self.len() {
+            self.note_beyond(alloc, other, place, &mut hosts)?;
+        }
+        Ok(hosts)
+    }
+
+    /// Whether the two have the same host at a place and know the same of it, means aside.
+    fn is_same_at(&self, other: &Servers, place: usize) -> bool
+        ensures { IsTrue result ↔ (slice_get (plain self.now) place ≡ slice_get (plain other.now) place) }
+    {
+        match (self.entry_at(place), other.entry_at(place)) {
+            (None, None) => true,
+            (Some((host, description)), Some((other_host, other_description))) => {
+                *host == *other_host && is_same_but_mean(description, other_description)
+            }
+            _ => false,
+        }
+    }
+
+    /// Whether the two have the same hosts and know the same of each, means aside.
+    pub fn is_same(&self, other: &Servers) -> bool
+        ensures { IsTrue result ↔ (plain self.now ≡ plain other.now) }
+    {
+        if self.len() != other.len() {
+            return false;
+        }
+        for place in 0..self.len() {
+            if !self.is_same_at(other, place) {
+                return false;
+            }
+        }
+        true
     }
 }

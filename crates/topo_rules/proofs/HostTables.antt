@@ -4,7 +4,7 @@ use Rattle.std.proofs.lemmas.List.{length-map}
 use Rattle.std.proofs.lemmas.Option.{slice_get-map}
 use Rattle.std.specs.Arc.{arc_value}
 use Rattle.std.specs.declared.sync.Arc.{Arc}
-use Rattle.std.specs.Map.{lookup, remove_entry, keys_of}
+use Rattle.std.specs.Map.{lookup, remove_entry, keys_of, values_of}
 use Rattle.std.specs.List.{IsDistinct}
 use Rattle.std.specs.List.Sorted.{IsSorted}
 use Rattle.std.specs.FinMap as map
@@ -65,3 +65,18 @@ module _ {Z : Type 0} where
       twice : (o : Option (Address × Arc ServerDescription Z)) → option_map (λ (e : Address × ServerDescription). e.1) (option_map (λ (e : Address × Arc ServerDescription Z). let x : Address × ServerDescription = (e.0, arc_value e.1) in x) o) ≡ option_map (λ (e : Address × Arc ServerDescription Z). arc_value e.1) o
       twice None = refl
       twice (Some e) = refl
+
+  -- what a table has at a place, as the entry of the map there
+  pub entry_at : (es : List (Address × Arc ServerDescription Z)) → T (map.is_sorted address_cmp (unshared es)) → (i : ℕ)
+      → slice_get (map.entries (seen es)) i ≡ option_map (λ (e : Address × Arc ServerDescription Z). let x : Address × ServerDescription = (e.0, arc_value e.1) in x) (slice_get es i)
+  entry_at es a i =
+      ap (λ fs. slice_get fs i) (entries-seen es a)
+      ∙ slice_get-map (λ (e : Address × Arc ServerDescription Z). let x : Address × ServerDescription = (e.0, arc_value e.1) in x) es i
+
+  -- what is read off the map's values, read off the table's
+  values_unshared : (es : List (Address × Arc ServerDescription Z)) → map (λ (e : Address × ServerDescription). e.1) (unshared es) ≡ map (λ (s : Arc ServerDescription Z). arc_value s) (values_of es)
+  values_unshared [] = refl
+  values_unshared (e ∷ es) = ap (λ ds. arc_value e.1 ∷ ds) (values_unshared es)
+
+  pub values-seen : (es : List (Address × Arc ServerDescription Z)) → T (map.is_sorted address_cmp (unshared es)) → map.values (seen es) ≡ map (λ (s : Arc ServerDescription Z). arc_value s) (values_of es)
+  values-seen es a = ap (map (λ (e : Address × ServerDescription). e.1)) (entries-seen es a) ∙ values_unshared es

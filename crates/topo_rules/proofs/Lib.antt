@@ -2,4 +2,5 @@ pub mod HostOrder
 pub mod HostTables
 pub mod Lists
 pub mod Places
+pub mod ReadingLemmas
 pub mod Tabulate

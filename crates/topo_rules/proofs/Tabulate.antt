@@ -15,7 +15,7 @@ use Rattle.std.specs.declared.sync.Arc.{Arc}
 use Rattle.std.specs.Map.{lookup}
 use Rattle.host_name.specs.Addresses.{Address, address_cmp, is_same_address}
 use Rattle.hello_reply.specs.declared.server_description.ServerDescription.{ServerDescription}
-use Rattle.hello_reply.specs.Descriptions.{default_unknown_of}
+use Rattle.hello_reply.specs.Descriptions.{unknown as default_unknown_of}
 use Rattle.topo_rules.specs.Maps.{ServerMap, tabulate, known_or_new, joined}
 use Rattle.topo_rules.specs.Seen.{seen, unshared}
 use Rattle.topo_rules.proofs.HostOrder.{host_total, host_same, host_ties}

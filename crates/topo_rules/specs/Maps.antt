@@ -5,7 +5,7 @@ use Rattle.std.specs.Option.{unwrap_or}
 use Rattle.std.specs.FinMap as map
 use Rattle.host_name.specs.Addresses.{Address, address_cmp, is_same_address}
 use Rattle.hello_reply.specs.declared.server_description.ServerDescription.{ServerDescription}
-use Rattle.hello_reply.specs.Descriptions.{default_unknown_of}
+use Rattle.hello_reply.specs.Descriptions.{unknown as default_unknown_of}
 use Rattle.topo_rules.specs.Kinds.{is_primary}
 
 -- A map from hosts to descriptions: its entries stand in the order of hosts.

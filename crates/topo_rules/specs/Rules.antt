@@ -6,7 +6,7 @@ use Rattle.std.specs.FinMap as map
 use Rattle.host_name.specs.Addresses.{Address, is_same_address}
 use Rattle.rtt_mean.specs.Mean.{next_mean}
 use Rattle.hello_reply.specs.declared.server_description.ServerDescription.{ServerDescription}
-use Rattle.hello_reply.specs.Descriptions.{default_unknown_of}
+use Rattle.hello_reply.specs.Descriptions.{unknown as default_unknown_of}
 use Rattle.topo_rules.specs.declared.kind.TopoKind.{TopoKind}
 use Rattle.topo_rules.specs.declared.kind.TopoKind.TheVariants as topo
 use Rattle.topo_rules.specs.declared.cell.Cell.{Cell}

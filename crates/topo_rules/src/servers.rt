@@ -2,7 +2,7 @@ ghost use Rattle.std.specs.Prelude.{◌≡◌, ◌∷◌, [], ◌++◌, ◌↔�
 ghost use Rattle.std.specs.Option.{option_map_or};
 ghost use Rattle.std.specs.FinMap as map;
 ghost use Rattle.std.specs.Arc.{arc_value};
-ghost use Rattle.hello_reply.specs.Descriptions.{default_unknown_of};
+ghost use Rattle.hello_reply.specs.Descriptions.{unknown as default_unknown_of};
 ghost use Rattle.topo_rules.specs.Changes.{hosts_beyond, plain};
 ghost use Rattle.topo_rules.specs.Maps.{tabulate, known_or_new, joined, under, reign, has_primary};
 ghost use Rattle.topo_rules.specs.Readings.{misfit_of, session_minutes_of};

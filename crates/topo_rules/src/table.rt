@@ -2,7 +2,7 @@ ghost use Rattle.std.specs.Prelude.{◌≡◌, OnOk, IfOk, slice_get};
 ghost use Rattle.std.specs.Option.{option_map_or};
 ghost use Rattle.std.specs.FinMap as map;
 ghost use Rattle.std.specs.Arc.{arc_value};
-ghost use Rattle.hello_reply.specs.Descriptions.{default_unknown_of};
+ghost use Rattle.hello_reply.specs.Descriptions.{unknown as default_unknown_of};
 ghost use Rattle.topo_rules.specs.Seen.{seen};
 
 use crate::Memory;

@@ -2,7 +2,7 @@ use Rattle.std.proofs.Common.{None, Some, sym, ap, ◌∙◌, option_map}
 use Rattle.std.specs.Arc.{arc_value}
 use Rattle.std.specs.Option.{unwrap_or}
 use Rattle.std.specs.FinMap as map
-use Rattle.hello_reply.specs.Descriptions.{default_unknown_of}
+use Rattle.hello_reply.specs.Descriptions.{unknown as default_unknown_of}
 use Rattle.topo_rules.proofs.HostTables.{get-seen}
 use Rattle.topo_rules.proofs.servers.Servers.known.Goals as goal
 

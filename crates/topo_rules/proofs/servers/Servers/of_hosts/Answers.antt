@@ -1,7 +1,7 @@
 use Rattle.std.proofs.Common.{sym, ap, ◌∙◌, take}
 use Rattle.std.specs.Arc.{arc_value}
 use Rattle.std.specs.FinMap as map
-use Rattle.hello_reply.specs.Descriptions.{default_unknown_of}
+use Rattle.hello_reply.specs.Descriptions.{unknown as default_unknown_of}
 use Rattle.topo_rules.specs.Maps.{tabulate}
 use Rattle.topo_rules.proofs.Tabulate.{tabulate-more}
 use Rattle.topo_rules.proofs.servers.Servers.of_hosts.Goals as goal

@@ -1,5 +1,5 @@
 use Rattle.std.proofs.Common.{◌≡◌, take}
-use Rattle.hello_reply.specs.Descriptions.{default_unknown_of}
+use Rattle.hello_reply.specs.Descriptions.{unknown as default_unknown_of}
 use Rattle.topo_rules.specs.Maps.{tabulate}
 use Rattle.topo_rules.specs.Seen.{seen}
 use Rattle.topo_rules.proofs.servers.Servers.of_hosts.Given as goal

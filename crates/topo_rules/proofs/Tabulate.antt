@@ -20,6 +20,7 @@ use Rattle.topo_rules.specs.Maps.{ServerMap, tabulate, known_or_new, joined}
 use Rattle.topo_rules.specs.Seen.{seen, unshared}
 use Rattle.topo_rules.proofs.HostOrder.{host_total, host_same, host_ties}
 use Rattle.topo_rules.proofs.HostTables.{entries-seen}
+use Rattle.topo_rules.proofs.Lists.{none_past}
 use Rattle.topo_rules.proofs.Places.{distinct_keys}
 
 -- the host is one of the list
@@ -99,11 +100,6 @@ get_at : (m : ServerMap) (i : ℕ) (e : Address × ServerDescription) → slice_
 get_at m i e at =
     map.get-entries m e.0 ∙ sym (lookup-find_by_order e.0 (map.entries m))
     ∙ lookup_from_place (eq_by_cmp_equiv host_total) (map.entries m) i e.0 e.1 (distinct_keys address_cmp is_same_address host_total host_same host_ties (map.entries m) (map.entries_sorted m)) at
-
-none_past : {A : Type 0} (xs : List A) (i : ℕ) → slice_get xs i ≡ None → length xs ≤ i
-none_past [] i e = omega arith
-none_past (x ∷ xs) zero e = absurd (true≢false (ap is_some e))
-none_past (x ∷ xs) (suc i) e = let h : length xs ≤ i = none_past xs i e in omega arith
 
 -- the step of a copy
 copied_entries-more : (m : ServerMap) (i : ℕ)

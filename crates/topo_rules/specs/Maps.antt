@@ -1,7 +1,7 @@
 -- Finite maps from hosts to descriptions (SDAM, TopologyDescription: servers).
-use Rattle.std.specs.Prelude.{Bool, if◌then◌else◌, List, ◌++◌, map}
+use Rattle.std.specs.Prelude.{ℕ, Option, Bool, if◌then◌else◌, List, ◌++◌, map}
 use Rattle.std.specs.List.{list_any}
-use Rattle.std.specs.Option.{unwrap_or}
+use Rattle.std.specs.Option.{option_and_then, unwrap_or}
 use Rattle.std.specs.FinMap as map
 use Rattle.host_name.specs.Addresses.{Address, address_cmp, is_same_address}
 use Rattle.hello_reply.specs.declared.server_description.ServerDescription.{ServerDescription}
@@ -19,6 +19,10 @@ tabulate hosts f = map.from_entries (map (λ x. (x, f x)) hosts)
 -- What the map says of a host; a default Unknown where it has none.
 abbrev pub known_or_new : ServerMap → Address → ServerDescription
 known_or_new m x = unwrap_or (map.get m x) (default_unknown_of x)
+
+-- The mean that the map keeps for a host, none where it has none.
+abbrev pub kept_mean : ServerMap → Address → Option ℕ
+kept_mean m host = option_and_then (λ d. d.mean) (map.get m host)
 
 -- The map with a default Unknown for each listed host that is not in it (SDAM, updateRSWithoutPrimary: add new servers).
 abbrev pub joined : ServerMap → List Address → ServerMap

@@ -1,6 +1,6 @@
 -- How a topology begins and how an event changes it (SDAM, Updating the TopologyDescription).
 use Rattle.std.specs.Prelude.{ℕ, Bool, true, false, not, ◌&&◌, ◌||◌, ◌==◌, if◌then◌else◌, List, length, Option, None, Some, is_some, nat_eq}
-use Rattle.std.specs.Option.{option_and_then, option_map_or, option_eq, option_or}
+use Rattle.std.specs.Option.{option_map_or, option_eq, option_or}
 use Rattle.std.specs.Cmp.Lexicographic.{pointwise}
 use Rattle.std.specs.FinMap as map
 use Rattle.host_name.specs.Addresses.{Address, is_same_address}
@@ -17,7 +17,7 @@ use Rattle.topo_rules.specs.declared.maxima.Maxima.{Maxima}
 use Rattle.topo_rules.specs.declared.topology.Topology.{Topology}
 use Rattle.topo_rules.specs.Cells.{cell_of}
 use Rattle.topo_rules.specs.Kinds.{is_known}
-use Rattle.topo_rules.specs.Maps.{ServerMap, tabulate, joined, reign, has_primary}
+use Rattle.topo_rules.specs.Maps.{ServerMap, kept_mean, tabulate, joined, reign, has_primary}
 use Rattle.topo_rules.specs.Primaries.{judged}
 
 -- ---- The start
@@ -46,10 +46,6 @@ abbrev pub event_host : TopoEvent → Address
 event_host (Reply description sample) = description.host
 event_host (Broken host generation) = host
 event_host (Refused host version generation shutdown) = host
-
--- The mean that the map keeps for a host, none where it has none.
-abbrev pub kept_mean : ServerMap → Address → Option ℕ
-kept_mean m host = option_and_then (λ d. d.mean) (map.get m host)
 
 -- What an event says of its host. A reply's description, with the mean round trip time behind the reply, which an Unknown
 -- has not (Server Selection, Round Trip Times); a default Unknown where a check or a connection broke; a default Unknown
@@ -86,6 +82,10 @@ placed t d = record t { servers = map.insert t.servers d.host d }
 abbrev pub forgotten : Topology → Address → Topology
 forgotten t host = record t { servers = map.insert t.servers host (default_unknown_of host) }
 
+-- The set name stays, or is taken where none is known.
+abbrev pub taken_name : Topology → Option (List ℕ) → Topology
+taken_name t came = record t { set_name = option_or t.set_name came }
+
 -- TopologyType Single: the description is kept, but a default Unknown stands in its place where the topology has a set name
 -- and the description another one or none. This is read as it stands: it holds for an Unknown too.
 abbrev pub updated_single : Topology → ServerDescription → Topology
@@ -117,7 +117,7 @@ crowned t d (Some most) = record t { max_election = most.election; max_set_versi
 abbrev pub updated_from_primary : Topology → ServerDescription → Topology
 updated_from_primary t d =
     checked (if name_differs t.set_name d.set_name then without t d.host
-    else crowned (record t { set_name = option_or t.set_name d.set_name }) d (judged d (record { election = t.max_election; version = t.max_set_version })))
+    else crowned (taken_name t d.set_name) d (judged d (record { election = t.max_election; version = t.max_set_version })))
 
 -- What a cell makes of a topology that has the new description already.
 abbrev pub settled : Cell → Topology → ServerDescription → Topology

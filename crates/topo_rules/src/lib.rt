@@ -21,10 +21,13 @@ mod primary;
 mod readings;
 mod rules;
 mod same;
+mod same_topologies;
+mod served;
 mod servers;
 mod table;
 #[cfg(test)]
 mod tests;
+mod texts;
 mod topology;
 
 pub use change::Change;

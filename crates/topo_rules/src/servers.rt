@@ -4,7 +4,7 @@ ghost use Rattle.std.specs.FinMap as map;
 ghost use Rattle.std.specs.Arc.{arc_value};
 ghost use Rattle.hello_reply.specs.Descriptions.{unknown as default_unknown_of};
 ghost use Rattle.topo_rules.specs.Changes.{hosts_beyond, plain};
-ghost use Rattle.topo_rules.specs.Maps.{tabulate, known_or_new, joined, under, reign, has_primary};
+ghost use Rattle.topo_rules.specs.Maps.{kept_mean, tabulate, known_or_new, joined, under, reign, has_primary};
 ghost use Rattle.topo_rules.specs.Readings.{misfit_of, session_minutes_of};
 ghost use Rattle.topo_rules.specs.Seen.{seen};
 
@@ -70,6 +70,16 @@ impl Servers {
     {
         match self.table.get(host) {
             Some(shared) => Some(&**shared),
+            None => None,
+        }
+    }
+
+    /// The mean round trip time that is kept for a host.
+    pub fn mean(&self, host: &Host) -> Option<u64>
+        ensures { result ≡ kept_mean self.now host.now }
+    {
+        match self.get(host) {
+            Some(description) => description.mean,
             None => None,
         }
     }

@@ -8,5 +8,6 @@ pub mod Documents
 pub mod Outermost
 pub mod Written
 pub mod PlainWritten
+pub mod Lengths
 pub mod Ahead
 pub mod Canonical

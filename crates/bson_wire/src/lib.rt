@@ -30,6 +30,7 @@ mod plain;
 mod plain_put;
 mod put;
 mod reading;
+mod sizes;
 mod span;
 #[cfg(test)]
 mod tests;
@@ -40,3 +41,4 @@ pub use decoding::decode;
 pub use encoding::encode;
 pub use fault::{BsonFault, EncodeFault};
 pub use laws::{flawless, no_look_ahead, no_prefix, one_document, read_again, spelled_spells};
+pub use sizes::size;

@@ -5,6 +5,7 @@ use crate::tests::{fault, message};
 use crate::{Message, MsgFault, Sequence, read};
 use bson_doc::{Document, Value};
 use bson_wire::BsonFault;
+use std::alloc::Global;
 use std::test::Fail;
 
 /// The number of a document's field `_id`, 0 where it has none.
@@ -57,6 +58,29 @@ const THREE: [u8; 50] = [
 /// Four bytes that would be a section's front.
 const CHECKSUM: [u8; 4] = [0, 5, 0, 0];
 
+/// Whether a message with the body and these sections, and more bytes behind it, is read so.
+fn reads(
+    alloc: Global,
+    flags: u32,
+    sections: &[&[u8]],
+    wanted: &[(&str, &[i32])],
+) -> Result<bool, Fail> {
+    let mut all = Vec::new(alloc);
+    for section in sections {
+        all.extend_from_slice(section)?;
+    }
+    let total = 20 + all.len() as u32;
+    let mut bytes = message(alloc, total, 2013, flags, &all)?;
+    bytes.extend_from_slice(&[1, 5, 0, 0, 0, 0])?;
+    let read = read(alloc, &bytes)?;
+    Ok(
+        read.flags == flags
+            && read.length == total
+            && id_of(&read.body) == 9
+            && has_sequences(&read, wanted),
+    )
+}
+
 #[test]
 fn reads_sequences(rt: HostRuntime) -> Result<(), Fail> {
     let alloc = rt.alloc();
@@ -64,45 +88,20 @@ fn reads_sequences(rt: HostRuntime) -> Result<(), Fail> {
     let one: (&str, &[i32]) = ("a", &[0]);
     let three: (&str, &[i32]) = ("\u{e9}", &[1, 2, 3]);
     let unnamed: (&str, &[i32]) = ("", &[]);
-    let cases: [(u32, &[&[u8]], &[(&str, &[i32])]); 10] = [
-        (0, &[&BODY], &[]),
-        (0, &[&BODY, &NONE], &[none]),
-        (0, &[&NONE, &BODY], &[none]),
-        (0, &[&BODY, &ONE], &[one]),
-        (0, &[&THREE, &BODY], &[three]),
-        (
-            0,
-            &[&ONE, &THREE, &BODY, &NONE, &ONE],
-            &[one, three, none, one],
-        ),
-        (0, &[&[1, 5, 0, 0, 0, 0], &BODY], &[unnamed]),
-        // With a checksum, which is not looked at.
-        (1, &[&BODY, &CHECKSUM], &[]),
-        (1, &[&BODY, &ONE, &CHECKSUM], &[one]),
-        (
-            0x0002_0003,
-            &[&THREE, &BODY, &NONE, &CHECKSUM],
-            &[three, none],
-        ),
-    ];
-    for (flags, sections, wanted) in cases {
-        let mut all = Vec::new(alloc);
-        for section in sections {
-            all.extend_from_slice(section)?;
-        }
-        let total = 20 + all.len() as u32;
-        let mut bytes = message(alloc, total, 2013, flags, &all)?;
-        // What stands behind the message is not looked at.
-        bytes.extend_from_slice(&[1, 5, 0, 0, 0, 0])?;
-        let message = read(alloc, &bytes)?;
-        assert_eq!(rt; message.flags, flags);
-        assert_eq!(rt; message.length, total);
-        assert_eq!(rt; id_of(&message.body), 9);
-        assert!(rt;
-            has_sequences(&message, wanted),
-            "of {flags} and {sections:?}"
-        );
-    }
+    let least = [1, 5, 0, 0, 0, 0];
+    assert!(rt; reads(alloc, 0, &[&BODY], &[])?);
+    assert!(rt; reads(alloc, 0, &[&BODY, &NONE], &[none])?);
+    assert!(rt; reads(alloc, 0, &[&NONE, &BODY], &[none])?);
+    assert!(rt; reads(alloc, 0, &[&BODY, &ONE], &[one])?);
+    assert!(rt; reads(alloc, 0, &[&THREE, &BODY], &[three])?);
+    let many: [(&str, &[i32]); 4] = [one, three, none, one];
+    assert!(rt; reads(alloc, 0, &[&ONE, &THREE, &BODY, &NONE, &ONE], &many)?);
+    assert!(rt; reads(alloc, 0, &[&least, &BODY], &[unnamed])?);
+    // With a checksum, which is not looked at.
+    assert!(rt; reads(alloc, 1, &[&BODY, &CHECKSUM], &[])?);
+    assert!(rt; reads(alloc, 1, &[&BODY, &ONE, &CHECKSUM], &[one])?);
+    let two: [(&str, &[i32]); 2] = [three, none];
+    assert!(rt; reads(alloc, 0x0002_0003, &[&THREE, &BODY, &NONE, &CHECKSUM], &two)?);
     Ok(())
 }
 

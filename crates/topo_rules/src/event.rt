@@ -37,6 +37,18 @@ pub enum TopoEvent {
 }
 
 impl TopoEvent {
+    ghost use Rattle.topo_rules.specs.Rules.{event_host};
+
+    /// The server that the event speaks of.
+    pub fn host(&self) -> &Host
+        ensures { result.now ≡ event_host self.now }
+    {
+        match self {
+            TopoEvent::Reply { description, .. } => &description.host,
+            TopoEvent::Broken { host, .. } | TopoEvent::Refused { host, .. } => host,
+        }
+    }
+
     /// An equal event.
     pub fn copy(&self, alloc: Global) -> Result<TopoEvent, Memory>
         ensures { IfOk result (λ event. event ≡ self.now) }

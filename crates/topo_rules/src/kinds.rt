@@ -6,6 +6,7 @@ use hello_reply::{ServerDescription, ServerKind};
 
 /// The least and the greatest wire version that this client speaks.
 const LEAST_WIRE: i32 = 13;
+
 const GREATEST_WIRE: i32 = 25;
 
 /// Whether the server answered when it was last heard of.

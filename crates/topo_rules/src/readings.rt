@@ -38,10 +38,7 @@ fn lesser(a: Option<i64>, b: Option<i64>) -> Option<i64>
 }
 
 /// The least timeout with one more server; none where no data-bearing server was met.
-fn lowered(
-    lowest: Option<Option<i64>>,
-    description: &ServerDescription,
-) -> Option<Option<i64>>
+fn lowered(lowest: Option<Option<i64>>, description: &ServerDescription) -> Option<Option<i64>>
     ensures { result ≡ lowered_lem lowest description.now }
 {
     if !bears_data(description) {

@@ -22,11 +22,7 @@ fn stands(topology: &Topology, host: &Host) -> bool
 }
 
 /// The host whose pool is ready behind the event.
-pub fn ready_host(
-    alloc: Global,
-    event: &TopoEvent,
-    new: &Topology,
-) -> Result<Option<Host>, Memory>
+pub fn ready_host(alloc: Global, event: &TopoEvent, new: &Topology) -> Result<Option<Host>, Memory>
     ensures { IfOk result (λ host. host ≡ ready_after event.now new.now) }
 {
     let TopoEvent::Reply { description, .. } = event else {

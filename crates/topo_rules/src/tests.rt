@@ -1,1 +1,4 @@
-
+mod changes;
+mod lines;
+mod readings;
+mod scenarios;

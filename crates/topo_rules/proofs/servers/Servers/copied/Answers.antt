@@ -15,6 +15,6 @@ loop-place-preserved c =
 pub returns : goal.returns
 returns c =
     let len : map.len c.args.self.now ≡ length c.self.inside.table.entries =
-        ap map.len (sym c.self.view_is) ∙ len-seen c.self.inside.table.entries c.self.invariant in
+    ap map.len (sym c.self.view_is) ∙ len-seen c.self.inside.table.entries c.self.invariant in
     let past : map.len c.args.self.now ≤ c.loop-place.place = omega arith in
     c.loop-place.invariant ∙ copied_all c.args.self.now c.loop-place.place past

@@ -1,4 +1,6 @@
 ghost use Rattle.std.specs.Prelude.{◌≡◌, ◌≢◌, ◌-◌, ◌^◌, min, Err, IfOk};
+ghost use Rattle.std.specs.List.{IsDistinct};
+ghost use Rattle.host_name.specs.Addresses.{is_same_address};
 ghost use Rattle.hello_reply.specs.Descriptions.{describes, described as description_of};
 ghost use Rattle.hello_reply.specs.declared.fault.ReplyFault.{ReplyFault};
 
@@ -17,13 +19,14 @@ const MOST_HOSTS: usize = 1_000;
 ///
 /// A reply whose `ok` is not one describes an Unknown server, and nothing else of it is read. Each field is sought by its
 /// name, of several of one name the first counts, and Null says as much as no field. Faults are sought in the order of
-/// [`FieldName`]; `Many` comes only where no field is at fault.
+/// [`FieldName`]; `Many` comes only where no field is at fault. No host is listed twice.
 pub fn describe(
     alloc: Global,
     reply: &Document,
     host: &Host,
 ) -> Result<ServerDescription, ReplyFault>
-    ensures { result ≢ Err ReplyFault.Memory → result ≡ describes reply.now.elements host.now }
+    ensures told { result ≢ Err ReplyFault.Memory → result ≡ describes reply.now.elements host.now }
+    ensures differ { IfOk result (λ d. IsDistinct is_same_address d.listed) }
 {
     if !is_ok(reply) {
         return Ok(default_unknown(alloc, host)?);
@@ -43,7 +46,8 @@ pub fn describe(
 
 /// What a reply says of its server, without a look at faults.
 fn described(alloc: Global, reply: &Document, host: &Host) -> Result<ServerDescription, Memory>
-    ensures { IfOk result (λ d. d ≡ description_of reply.now.elements host.now) }
+    ensures value { IfOk result (λ d. d ≡ description_of reply.now.elements host.now) }
+    ensures differ { IfOk result (λ d. IsDistinct is_same_address d.listed) }
 {
     Ok(ServerDescription {
         host: host.copy(alloc)?,

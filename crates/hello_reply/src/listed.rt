@@ -1,4 +1,6 @@
 ghost use Rattle.std.specs.Prelude.{◌≡◌, [], ◌++◌, length, fold, IfOk, OnOk};
+ghost use Rattle.std.specs.List.{IsDistinct};
+ghost use Rattle.host_name.specs.Addresses.{is_same_address};
 ghost use Rattle.hello_reply.specs.Listed.{with_host, listed as listed_hosts};
 
 use crate::{FieldName, Memory, fields};
@@ -9,7 +11,8 @@ use std::alloc::{AllocError, Global};
 
 /// The hosts that the reply lists, one list after the other, each where it comes first, and once.
 pub(crate) fn listed(alloc: Global, reply: &Document) -> Result<Rows<Host>, Memory>
-    ensures { IfOk result (λ hosts. hosts ≡ listed_hosts reply.now.elements) }
+    ensures value { IfOk result (λ hosts. hosts ≡ listed_hosts reply.now.elements) }
+    ensures differ { IfOk result (IsDistinct is_same_address) }
 {
     let mut kept = IndexSet::new(alloc);
     keep(&mut kept, fields::hosts(alloc, reply, FieldName::Hosts)?)?;
@@ -33,8 +36,12 @@ fn keep(kept: &mut IndexSet<Host>, hosts: Rows<Host>) -> Result<(), Memory>
 
 /// The hosts of the set, in its order.
 fn in_order(alloc: Global, kept: IndexSet<Host>) -> Result<Rows<Host>, Memory>
-    ensures { IfOk result (λ hosts. hosts ≡ kept.keys) }
+    ensures order { IfOk result (λ hosts. hosts ≡ kept.keys) }
+    ensures differ { IfOk result (IsDistinct is_same_address) }
 {
-    let hosts: Vec<Host> = kept.into_iter().collect(alloc)?;
+    let mut hosts = Vec::with_capacity(alloc, kept.len())?;
+    for host in kept {
+        hosts.push(host)?;
+    }
     Ok(Rows::from_vec(hosts))
 }

@@ -81,11 +81,9 @@ fn show_numbers(line: &mut String, d: &ServerDescription) -> Result<(), Fail> {
         put(line, "minutes", minutes)?;
     }
     if let Some(version) = d.version {
-        write!(
-            line,
-            " version={}/{}",
-            version.process.0[0], version.counter
-        )?;
+        let process = version.process.0[0];
+        let counter = version.counter;
+        write!(line, " version={process}/{counter}")?;
     }
     Ok(())
 }

@@ -133,10 +133,10 @@ fn answers_offers(rt: HostRuntime) -> Result<(), Fail> {
         }
         assert_eq!(rt; book.accepted().len(), accepted);
     }
-    assert_eq!(rt; accepted, 12);
+    assert_eq!(rt; accepted, 13);
     assert_eq!(rt; book.topology().kind(), TopoKind::Sharded);
     assert_eq!(rt; book.topology().len(), 2);
-    let last = book.accepted().as_slice().get(11).ok_or("no event")?;
+    let last = book.accepted().as_slice().get(12).ok_or("no event")?;
     assert!(rt;
         matches!(
             last,

@@ -173,11 +173,12 @@ fn kind_of(topology: &Topology) -> &'static str {
 
 /// The topology in one line: kind, set name, the election's last byte, set version, and the servers with their kinds.
 pub fn shown(alloc: Global, topology: &Topology) -> Result<String, Fail> {
-    let name = match &topology.set_name {
-        Some(name) => name.as_str(),
-        None => "-",
-    };
-    let mut line = format!(in alloc; "{} {name}", kind_of(topology))?;
+    let mut line = String::from_str(alloc, kind_of(topology))?;
+    line.push_str(" ")?;
+    match &topology.set_name {
+        Some(name) => line.push_str(name.as_str())?,
+        None => line.push_str("-")?,
+    }
     match topology.max_election {
         Some(Oid([.., last])) => line.push_str(format!(in alloc; " e{last}")?.as_str())?,
         None => line.push_str(" -")?,
@@ -188,39 +189,41 @@ pub fn shown(alloc: Global, topology: &Topology) -> Result<String, Fail> {
     }
     for place in 0..topology.len() {
         if let Some(description) = topology.at(place) {
-            let server = format!(in alloc;
-                " {}={}",
-                description.host.name(),
-                kind_text(description.kind)
-            )?;
-            line.push_str(server.as_str())?;
+            line.push_str(" ")?;
+            line.push_str(description.host.name())?;
+            line.push_str("=")?;
+            line.push_str(kind_text(description.kind))?;
         }
     }
     Ok(line)
 }
 
-fn push_hosts(alloc: Global, line: &mut String, sign: &str, hosts: &[Host]) -> Result<(), Fail> {
+fn push_hosts(line: &mut String, sign: &str, hosts: &[Host]) -> Result<(), Fail> {
     for host in hosts {
-        line.push_str(format!(in alloc; "{sign}{} ", host.name())?.as_str())?;
+        line.push_str(sign)?;
+        line.push_str(host.name())?;
+        line.push_str(" ")?;
     }
     Ok(())
 }
 
-fn name_or_none(host: &Option<Host>) -> &str {
+fn push_name(line: &mut String, host: &Option<Host>) -> Result<(), Fail> {
     match host {
-        Some(host) => host.name(),
-        None => "-",
+        Some(host) => line.push_str(host.name())?,
+        None => line.push_str("-")?,
     }
+    Ok(())
 }
 
 /// A change in one line: hosts that came and left, the pools that are ready and cleared, whether it differs.
 pub fn told(alloc: Global, change: &Change) -> Result<String, Fail> {
     let mut line = String::new(alloc);
-    push_hosts(alloc, &mut line, "+", change.added.as_slice())?;
-    push_hosts(alloc, &mut line, "-", change.removed.as_slice())?;
-    let ready = name_or_none(&change.ready);
-    let clear = name_or_none(&change.clear);
-    let differs = change.differs;
-    line.push_str(format!(in alloc; "ready={ready} clear={clear} {differs}")?.as_str())?;
+    push_hosts(&mut line, "+", change.added.as_slice())?;
+    push_hosts(&mut line, "-", change.removed.as_slice())?;
+    line.push_str("ready=")?;
+    push_name(&mut line, &change.ready)?;
+    line.push_str(" clear=")?;
+    push_name(&mut line, &change.clear)?;
+    line.push_str(if change.differs { " true" } else { " false" })?;
     Ok(line)
 }

@@ -11,6 +11,9 @@ ghost use Rattle.desk_wire.specs.Pull.{pull_shuts, Pulls};
 ghost use Rattle.desk_wire.specs.State.{opened};
 ghost use Rattle.desk_wire.specs.Steps.{after_write, read_shuts, Judges};
 
+#[cfg(test)]
+mod tests;
+
 use crate::{Pulled, Pushed};
 use bson_doc::{Buffer, Bytes, Rows};
 use msg_wire::{Message, MsgFault, read};

@@ -4,4 +4,5 @@ pub mod MadeLemmas
 mod MessageLemmas
 mod PullLemmas
 mod PushLemmas
+pub mod SeenLemmas
 mod TradeLemmas

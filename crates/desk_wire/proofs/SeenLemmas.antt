@@ -90,9 +90,9 @@ turns-here s (e ∷ turns) all =
     search (rules, first, later)
 
 -- All that was asked of the net names the stream.
-pub made-here : (s : ℕ) {out came unsent : List ℕ} {answer : Pulled} {a b : List NetEvent} (made : Made (is_turn s) out came (exchange_end s unsent answer) a b)
+pub made-here : (s : ℕ) (out came unsent : List ℕ) (answer : Pulled) {a b : List NetEvent} (made : Made (is_turn s) out came (exchange_end s unsent answer) a b)
     → All (λ e. is_at e s ≡ true) (made.turns ++ exchange_end s unsent answer)
-made-here s {unsent = unsent} {answer = answer} made =
+made-here s out came unsent answer made =
     All-append (λ e. is_at e s ≡ true) made.turns (exchange_end s unsent answer) (turns-here s made.turns made.only) (end-here s unsent answer)
 
 -- What is seen behind the exchange: its turns, and then its end.

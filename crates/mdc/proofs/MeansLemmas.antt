@@ -34,7 +34,7 @@ traded-moves s request w answer ex t fresh =
 pub sends-traded : {tells : Type 0} (s : ℕ) (request : List ℕ) (w : State) (answer : Pulled) {a b : List NetEvent} → Exchanges tells (ready s request) w a b answer → tells
     → seen s a ≡ unseen → SendsOnly s request a b
 sends-traded s request w answer ex t fresh = record {
-  only = record { events = (ex.told t).turns ++ exchange_end s w.unsent answer; adds = (ex.told t).adds; here = made-here s (ex.told t) };
+  only = record { events = (ex.told t).turns ++ exchange_end s w.unsent answer; adds = (ex.told t).adds; here = made-here s ex.sent ex.came w.unsent answer (ex.told t) };
   out = record { more = w.unsent; joined = ap (λ (l : List ℕ). l ++ w.unsent) (traded-moves s request w answer ex t fresh).0 ∙ ex.joined };
 }
 

@@ -46,7 +46,7 @@ sends-none s request h fresh = record {
 }
 
 all-sent : (sent rest request : List ℕ) → sent ++ rest ≡ request → rest ≡ [] → sent ≡ request
-all-sent sent rest request joined none = sym (append-nil sent) ∙ ap (λ (l : List ℕ). sent ++ l) (sym none) ∙ joined
+all-sent sent rest request joined left = sym (append-nil sent) ∙ ap (λ (l : List ℕ). sent ++ l) (sym left) ∙ joined
 
 -- What came is a front: it is held, or nothing came since something is unsent.
 front-of : (unsent held came : List ℕ) → held ≡ came → (unsent ≡ [] → IsFront held) → (unsent ≢ [] → came ≡ []) → IsFront came

@@ -1,5 +1,5 @@
 -- What arrives in other streams' inboxes, call by call.
-use Rattle.std.proofs.Common.{◌≡◌, ◌≢◌, ℕ, List, subst, sym}
+use Rattle.std.proofs.Common.{◌≡◌, ℕ, List, subst}
 use Rattle.net_link.specs.Inbox.{Arrives, ArrivesBut}
 use Rattle.net_link.specs.Streams.{KeepsOpen}
 use Rattle.net_link.proofs.PrefixLemmas.{IsPrefixOf-trans}

@@ -2,9 +2,8 @@
 use Rattle.std.proofs.Common.{◌≡◌, ℕ, Bool, true, List, [], ◌∷◌, ◌++◌, refl, sym, ap, ◌∙◌, subst, append_assoc, append-nil, eq-eqb, rules}
 use Rattle.std.proofs.lemmas.Grind.{flat_map-append}
 use Rattle.std.proofs.lemmas.List.Elements.{All-append, All-head, All-tail}
-use Rattle.std.specs.List.{All, flat_map, fold}
-use Rattle.net_link.specs.Events.{Adds, is_at}
-use Rattle.net_link.specs.Seen.{Seen, seen, after, with_event}
+use Rattle.std.specs.List.{All, flat_map}
+use Rattle.net_link.specs.Events.{Adds}
 use Rattle.net_link.specs.declared.event.NetEvent.{NetEvent}
 use Rattle.net_link.specs.declared.event.NetEvent.TheVariants as event
 use Rattle.net_link.proofs.EventLemmas.{Adds-none, Adds-trans}

@@ -2,11 +2,10 @@
 use Rattle.std.proofs.Common.{◌≡◌, ◌≢◌, ℕ, List, [], ◌∷◌, ◌++◌, None, Ok, length, drop, refl, sym, ap, ◌∙◌, subst, append_assoc, append-nil}
 use Rattle.std.proofs.Math.Seq.{drop-append_seam}
 use Rattle.std.specs.List.{flat_map}
-use Rattle.msg_wire.specs.Framing.{Framed}
 use Rattle.msg_wire.specs.Reading.{flaw, read}
 use Rattle.msg_wire.specs.declared.message.Message.{Message}
 use Rattle.msg_wire.proofs.Whole.{flaw-ok, read_again}
-use Rattle.desk_wire.specs.Messages.{Begins, bytes_queued, bytes_sent, Follow, handed, IsFirst, IsParted, message_in, queued, Sending, Sends, sent, Step}
+use Rattle.desk_wire.specs.Messages.{Begins, bytes_queued, bytes_sent, Follow, handed, IsFirst, message_in, queued, Sending, Sends, sent, Step}
 use Rattle.desk_wire.specs.Pull.{HandsOut}
 use Rattle.desk_wire.specs.declared.answers.Pulled.{Pulled}
 use Rattle.desk_wire.specs.declared.answers.Pulled.TheVariants as pulled

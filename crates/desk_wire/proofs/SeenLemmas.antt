@@ -1,5 +1,5 @@
 -- What a history says of a stream behind an exchange on it.
-use Rattle.std.proofs.Common.{◌≡◌, ℕ, Bool, true, List, [], ◌∷◌, ◌++◌, refl, sym, ap, ◌∙◌, append_assoc, append-nil, eq-eqb, rules, eqb}
+use Rattle.std.proofs.Common.{◌≡◌, ℕ, true, List, [], ◌∷◌, ◌++◌, refl, sym, ap, ◌∙◌, append_assoc, append-nil, eq-eqb, rules, eqb}
 use Rattle.std.proofs.lemmas.List.Elements.{All-append, All-head, All-tail}
 use Rattle.std.proofs.lemmas.List.Sums.{fold-append}
 use Rattle.std.specs.List.{All, flat_map, fold}

@@ -1,19 +1,16 @@
 -- Turns of an exchange, one after another.
-use Rattle.std.proofs.Common.{◌≡◌, ◌≢◌, ◌↔◌, ℕ, Bool, true, false, List, [], ◌∷◌, ◌++◌, refl, sym, ap, ◌∙◌, subst, append_assoc, append-nil, eq-eqb}
+use Rattle.std.proofs.Common.{◌≡◌, ◌≢◌, ℕ, true, List, [], ◌∷◌, ◌++◌, refl, sym, ap, ◌∙◌, subst, append_assoc, append-nil, eq-eqb}
 use Rattle.net_link.specs.declared.event.NetEvent.{NetEvent}
 use Rattle.net_link.specs.declared.event.NetEvent.TheVariants as event
-use Rattle.msg_wire.specs.Framing.{Framed}
 use Rattle.desk_wire.specs.Exchange.{Exchanges, Trades, exchange_end, waiting}
-use Rattle.desk_wire.specs.Fronts.{IsFront, IsRefused}
 use Rattle.desk_wire.specs.Made.{Made, bytes_in, bytes_out, is_read, is_turn, is_write}
-use Rattle.desk_wire.specs.Pull.{HandsOut, Pulls, pull_end, pull_shuts}
-use Rattle.desk_wire.specs.Push.{Pushes, push_end, push_shuts}
+use Rattle.desk_wire.specs.Pull.{HandsOut, Pulls, pull_end}
+use Rattle.desk_wire.specs.Push.{Pushes}
 use Rattle.desk_wire.specs.State.{State}
 use Rattle.desk_wire.specs.declared.answers.Pulled.{Pulled}
 use Rattle.desk_wire.specs.declared.answers.Pulled.TheVariants as pulled
-use Rattle.desk_wire.specs.declared.answers.Pushed.{Pushed}
 use Rattle.desk_wire.specs.declared.answers.Pushed.TheVariants as pushed
-use Rattle.desk_wire.proofs.MadeLemmas.{Made-joined, Made-last, Made-none, Made-trans, Made-wider, turn-read, turn-write}
+use Rattle.desk_wire.proofs.MadeLemmas.{Made-joined, Made-none, Made-trans, Made-wider, turn-read, turn-write}
 
 pub Exchanges-none : (tells : Type 0) (w : State) (h : List NetEvent) → Exchanges tells w w h h pulled.Memory
 Exchanges-none tells w h = record {

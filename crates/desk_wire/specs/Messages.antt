@@ -1,5 +1,5 @@
 -- The messages at the front of bytes, and what any list of pulls and pushes makes of a wire.
-use Rattle.std.specs.Prelude.{◌≡◌, ◌≢◌, ℕ, List, [], ◌∷◌, ◌++◌, None, flat_map}
+use Rattle.std.specs.Prelude.{◌≡◌, ◌≢◌, ℕ, List, [], ◌∷◌, ◌++◌, None}
 use Rattle.msg_wire.specs.Framing.{Framed}
 use Rattle.msg_wire.specs.Reading.{flaw}
 use Rattle.msg_wire.specs.declared.message.Message.{Message}

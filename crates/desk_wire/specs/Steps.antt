@@ -1,5 +1,5 @@
 -- What one call of a net makes of a wire, and what the bytes that it holds are.
-use Rattle.std.specs.Prelude.{◌≡◌, ℕ, Bool, true, [], drop, Some}
+use Rattle.std.specs.Prelude.{◌≡◌, Bool, true, [], drop, Some}
 use Rattle.msg_wire.specs.Framing.{Framed}
 use Rattle.msg_wire.specs.Reading.{flaw}
 use Rattle.msg_wire.specs.declared.fault.MsgFault.TheVariants as fault

@@ -1,4 +1,4 @@
-use Rattle.std.proofs.Common.{◌≡◌, ◌≤◌, ℕ, false}
+use Rattle.std.proofs.Common.{◌≡◌, ◌≤◌}
 use Rattle.net_link.specs.Inbox.{ArrivesBut}
 use Rattle.net_link.specs.Streams.{KeepsOpen, StaysEnded}
 use Rattle.desk_wire.specs.Exchange.{Exchanges}

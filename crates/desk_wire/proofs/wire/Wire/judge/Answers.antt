@@ -1,4 +1,4 @@
-use Rattle.std.proofs.Common.{◌≡◌, List, [], ℕ, take, ap, ◌∙◌, sym, subst}
+use Rattle.std.proofs.Common.{List, [], ℕ, take, ap, sym, subst}
 use Rattle.msg_wire.specs.Framing.{Framed}
 use Rattle.desk_wire.specs.Fronts.{HasNoneTooMany}
 use Rattle.desk_wire.specs.State.{State}

@@ -1,8 +1,6 @@
-use Rattle.std.proofs.Common.{◌≡◌, ◌<◌, ℕ, Some, length, arith, ap, ◌∙◌, sym, subst, length-append}
-use Rattle.net_link.specs.Turns.{added}
+use Rattle.std.proofs.Common.{◌≡◌, ◌<◌, Some, length, arith, ap, ◌∙◌}
 use Rattle.msg_wire.specs.Reading.{flaw}
 use Rattle.msg_wire.specs.declared.fault.MsgFault.TheVariants as fault
-use Rattle.desk_wire.specs.Fronts.{HasNoneTooMany}
 use Rattle.desk_wire.proofs.FrontLemmas.{asks-more, grown}
 use Rattle.desk_wire.proofs.wire.Wire.pull_some.Goals as goal
 

@@ -1,5 +1,5 @@
-ghost use Rattle.std.specs.Prelude.{◌≡◌, IsTrue, ◌↔◌, is_some};
-ghost use Rattle.mdc.specs.Reply.{IsOk, Says, field, has_unread, number_in};
+ghost use Rattle.std.specs.Prelude.{◌≡◌, IsTrue, ◌↔◌, is_some, codes};
+ghost use Rattle.mdc.specs.Reply.{IsOk, Says, code_in, field, has_unread, whole_in};
 
 use crate::outcome::FirstOutcome;
 use bson_doc::{Document, Value, is_one};
@@ -10,14 +10,14 @@ pub fn read_reply(reply: &Document) -> FirstOutcome
 {
     if !is_ok(reply) {
         return FirstOutcome::Error {
-            code: number(reply, "code"),
+            code: code(reply),
         };
     }
     if has_unread(reply) {
         return FirstOutcome::Unbuilt;
     }
     FirstOutcome::Ok {
-        n: i64::from(number(reply, "n")),
+        n: count(reply),
         modified: 0,
     }
 }
@@ -50,12 +50,23 @@ fn has(reply: &Document, name: &str) -> bool
     reply.get(name).is_some()
 }
 
-/// The int32 of that name, 0 where there is none.
-fn number(reply: &Document, name: &str) -> i32
-    ensures { result ≡ number_in (field name.now reply.now) }
+/// The reply's `code`, an int32; 0 where there is none.
+fn code(reply: &Document) -> i32
+    ensures { result ≡ code_in (field (codes "code") reply.now) }
 {
-    match reply.get(name) {
+    match reply.get("code") {
         Some(Value::Int32(n)) => *n,
+        _ => 0,
+    }
+}
+
+/// The reply's `n`, an int32 or int64; 0 where there is none.
+fn count(reply: &Document) -> i64
+    ensures { result ≡ whole_in (field (codes "n") reply.now) }
+{
+    match reply.get("n") {
+        Some(Value::Int32(n)) => i64::from(*n),
+        Some(Value::Int64(n)) => *n,
         _ => 0,
     }
 }

@@ -5,8 +5,8 @@ use Rattle.mdc.specs.Request.{REQUEST}
 use Rattle.mdc.proofs.RequestLemmas.{refused_bit-0, depth_of-insert_command, length-insert_request}
 use Rattle.mdc.proofs.request.request_of.Goals as goal
 
-pub write-requires : goal.write-requires
-write-requires c = refused_bit-0
+pub write-requires-clause-known : goal.write-requires-clause-known
+write-requires-clause-known c = refused_bit-0
 
 pub unreachable-requires : goal.unreachable-requires
 unreachable-requires c =

@@ -9,9 +9,7 @@ pub fn read_reply(reply: &Document) -> FirstOutcome
     ensures { Says reply.now result }
 {
     if !is_ok(reply) {
-        return FirstOutcome::Error {
-            code: code(reply),
-        };
+        return FirstOutcome::Error { code: code(reply) };
     }
     if has_unread(reply) {
         return FirstOutcome::Unbuilt;

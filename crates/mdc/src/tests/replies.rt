@@ -23,6 +23,14 @@ const REFUSED: &[u8] =
 const UNREAD: &[u8] =
     b"\x32\0\0\0\x07\0\0\0\x01\0\0\0\xdd\x07\0\0\0\0\0\0\0\x1d\0\0\0\x01ok\0\0\0\0\0\0\0\xf0\x3f\x10cursor\0\0\0\0\0\0";
 
+/// `{n: 4294967297, ok: 1.0}` in answer to it, whose n is an int64.
+const LONG_N: &[u8] =
+    b"\x31\0\0\0\x07\0\0\0\x01\0\0\0\xdd\x07\0\0\0\0\0\0\0\x1c\0\0\0\x12n\0\x01\0\0\0\x01\0\0\0\x01ok\0\0\0\0\0\0\0\xf0\x3f\0";
+
+/// The reply with checksumPresent and four bytes of a checksum.
+const CHECKED: &[u8] =
+    b"\x31\0\0\0\x07\0\0\0\x01\0\0\0\xdd\x07\0\0\x01\0\0\0\0\x18\0\0\0\x10n\0\x01\0\0\0\x01ok\0\0\0\0\0\0\0\xf0\x3f\0\xaa\xbb\xcc\xdd";
+
 /// The first 15 bytes of the reply.
 const FIFTEEN: &[u8] = b"\x2d\0\0\0\x07\0\0\0\x01\0\0\0\xdd\x07\0";
 
@@ -43,7 +51,7 @@ struct Case {
     end: ShotEnd,
 }
 
-const CASES: [Case; 15] = [
+const CASES: [Case; 17] = [
     Case {
         name: "whole",
         reply: REPLY,
@@ -72,6 +80,26 @@ const CASES: [Case; 15] = [
         fails: 0,
         step: 1_000_000,
         line: "ok n=0 modified=0",
+        end: ShotEnd::Replied,
+    },
+    Case {
+        name: "an n of 64 bits",
+        reply: LONG_N,
+        most: 4096,
+        ends: false,
+        fails: 0,
+        step: 1_000_000,
+        line: "ok n=4294967297 modified=0",
+        end: ShotEnd::Replied,
+    },
+    Case {
+        name: "a checksum",
+        reply: CHECKED,
+        most: 5,
+        ends: false,
+        fails: 0,
+        step: 1_000_000,
+        line: "ok n=1 modified=0",
         end: ShotEnd::Replied,
     },
     Case {

@@ -3,8 +3,10 @@ pub mod Texts
 pub mod Payloads
 pub mod Loop
 pub mod Fields
+pub mod PlainValues
 pub mod Documents
 pub mod Outermost
 pub mod Written
+pub mod PlainWritten
 pub mod Ahead
 pub mod Canonical

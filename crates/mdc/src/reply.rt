@@ -1,5 +1,5 @@
-ghost use Rattle.std.specs.Prelude.{◌≡◌, IsTrue, ◌↔◌, is_some, codes};
-ghost use Rattle.mdc.specs.Reply.{IsOk, Says, code_in, field, has_unread, whole_in};
+ghost use Rattle.std.specs.Prelude.{◌≡◌, IsTrue, ◌↔◌, is_some};
+ghost use Rattle.mdc.specs.Reply.{IsOk, Says, count_in, field, has_unread, number_in};
 
 use crate::outcome::FirstOutcome;
 use bson_doc::{Document, Value, is_one};
@@ -9,13 +9,15 @@ pub fn read_reply(reply: &Document) -> FirstOutcome
     ensures { Says reply.now result }
 {
     if !is_ok(reply) {
-        return FirstOutcome::Error { code: code(reply) };
+        return FirstOutcome::Error {
+            code: number(reply, "code"),
+        };
     }
     if has_unread(reply) {
         return FirstOutcome::Unbuilt;
     }
     FirstOutcome::Ok {
-        n: count(reply),
+        n: count(reply, "n"),
         modified: 0,
     }
 }
@@ -48,21 +50,21 @@ fn has(reply: &Document, name: &str) -> bool
     reply.get(name).is_some()
 }
 
-/// The reply's `code`, an int32; 0 where there is none.
-fn code(reply: &Document) -> i32
-    ensures { result ≡ code_in (field (codes "code") reply.now) }
+/// The int32 of that name, 0 where there is none.
+fn number(reply: &Document, name: &str) -> i32
+    ensures { result ≡ number_in (field name.now reply.now) }
 {
-    match reply.get("code") {
+    match reply.get(name) {
         Some(Value::Int32(n)) => *n,
         _ => 0,
     }
 }
 
-/// The reply's `n`, an int32 or int64; 0 where there is none.
-fn count(reply: &Document) -> i64
-    ensures { result ≡ whole_in (field (codes "n") reply.now) }
+/// The int32 or int64 of that name, 0 where there is none.
+fn count(reply: &Document, name: &str) -> i64
+    ensures { result ≡ count_in (field name.now reply.now) }
 {
-    match reply.get("n") {
+    match reply.get(name) {
         Some(Value::Int32(n)) => i64::from(*n),
         Some(Value::Int64(n)) => *n,
         _ => 0,

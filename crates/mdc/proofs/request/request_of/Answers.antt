@@ -1,12 +1,12 @@
-use Rattle.std.proofs.Common.{◌≡◌, ◌∙◌, ◌+◌, ap, arith, length, pos}
+use Rattle.std.proofs.Common.{◌≡◌, ◌∙◌, ◌+◌, ap, arith, length, pos, refl}
 use Rattle.bson_doc.specs.Documents.{depth_of}
 use Rattle.msg_wire.specs.Framing.{frame}
 use Rattle.mdc.specs.Request.{REQUEST}
 use Rattle.mdc.proofs.RequestLemmas.{refused_bit-0, depth_of-insert_command, length-insert_request}
 use Rattle.mdc.proofs.request.request_of.Goals as goal
 
-pub write-requires-clause-known : goal.write-requires-clause-known
-write-requires-clause-known c = refused_bit-0
+pub write-requires : goal.write-requires
+write-requires c = record { known = refused_bit-0; no_checksum = refl }
 
 pub unreachable-requires : goal.unreachable-requires
 unreachable-requires c =

@@ -17,18 +17,24 @@
 mod decoding;
 mod encoding;
 mod fault;
+mod fixed;
 mod kind;
 mod laws;
 mod limits;
 mod parts;
 mod plain;
+mod plain_put;
 mod put;
 mod reading;
+mod sizes;
+mod span;
 #[cfg(test)]
 mod tests;
+mod varying;
 mod writing;
 
 pub use decoding::decode;
 pub use encoding::encode;
 pub use fault::{BsonFault, EncodeFault};
 pub use laws::{flawless, no_look_ahead, no_prefix, one_document, read_again, spelled_spells};
+pub use sizes::size;

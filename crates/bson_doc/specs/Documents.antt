@@ -5,7 +5,7 @@ use Rattle.std.specs.Cmp.Lexicographic.{pointwise}
 use Rattle.bson_doc.specs.declared.name.Name.{Name}
 use Rattle.bson_doc.specs.declared.value.Document.{Document, Document-F, fold-Document}
 use Rattle.bson_doc.specs.declared.value.Value.{Value, Value-F, fold-Value}
-use Rattle.bson_doc.specs.declared.value.Value.TheVariants.{Double, Int32}
+use Rattle.bson_doc.specs.declared.value.Value.TheVariants.{Double, Int32, Int64}
 use Rattle.bson_doc.specs.declared.value.Value.TheOpen as layer
 
 -- The greatest of what f gives for the items, 0 where there are none.
@@ -17,13 +17,14 @@ greatest f (x ∷ xs) = max (f x) (greatest f xs)
 abbrev pub document_step : Document-F ℕ ℕ → ℕ
 document_step d = 1 + greatest (λ e. e.1) d.elements
 
--- A value without documents inside has no depth; an array counts as a document does.
+-- A value without documents inside has no depth; an array counts as a document does, and code with a scope as its scope.
 abbrev pub value_step : Value-F ℕ ℕ → ℕ
 value_step (layer.Doc d) = d
+value_step (layer.Scope code d) = d
 value_step (layer.Array ds) = 1 + greatest (λ d. d) ds
 value_step _ = 0
 
--- How deep documents and arrays lie in one another: 1 for a document without any inside.
+-- How deep documents and arrays lie in one another (own): 1 for a document without any inside.
 abbrev pub depth_of : Document → ℕ
 depth_of = fold-Document ℕ ℕ value_step document_step
 
@@ -31,10 +32,11 @@ depth_of = fold-Document ℕ ℕ value_step document_step
 abbrev pub depth_inside : Value → ℕ
 depth_inside = fold-Value ℕ ℕ value_step document_step
 
--- The first value of that name.
+-- The first value of that name. Names are compared byte by byte: `pointwise ◌==◌` holds of two texts of equal length with
+-- equal bytes.
 abbrev pub value_of : List ℕ → List (Name × Value) → Option Value
 value_of name es = option_map (λ e. e.1) (find (λ e. pointwise ◌==◌ e.0 name) es)
 
--- The value is the number one: an int32 of 1 or the double 1.0.
+-- The value is the number one (own, as servers say `ok`): an int32 or int64 of 1 or the double 1.0.
 abbrev pub IsOne : Value → Type 0
-IsOne v = (v ≡ Int32 (pos 1)) ⊎ (v ≡ Double (0 ∷ 0 ∷ 0 ∷ 0 ∷ 0 ∷ 0 ∷ 0xf0 ∷ 0x3f ∷ []))
+IsOne v = (v ≡ Int32 (pos 1)) ⊎ (v ≡ Int64 (pos 1)) ⊎ (v ≡ Double (0 ∷ 0 ∷ 0 ∷ 0 ∷ 0 ∷ 0 ∷ 0xf0 ∷ 0x3f ∷ []))

@@ -1,4 +1,4 @@
--- A list with the room that was reserved behind it.
+-- A list with the room that was reserved behind it (own).
 use Rattle.std.specs.Prelude.{ℕ, List}
 
 -- What a buffer shows: its items, and how many more find room without taking memory.

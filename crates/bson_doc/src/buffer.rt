@@ -54,6 +54,7 @@ impl<T> Buffer<T> {
         self.held.len()
     }
 
+    /// The items, in order.
     pub fn as_slice(&self) -> &[T]
         ensures { result.now ≡ self.now.items }
     {

@@ -42,6 +42,7 @@ fn depth_of_value(value: &Value) -> u32
 {
     match value {
         Value::Doc(inner) => inner.depth(),
+        Value::Scope { code: _, scope } => scope.depth(),
         Value::Array(items) => depth_of_items(items.as_slice()),
         _ => 0,
     }

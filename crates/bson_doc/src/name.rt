@@ -42,6 +42,7 @@ impl Name {
         }
     }
 
+    /// The name as a text, which has no zero byte.
     pub fn as_str(&self) -> &str
         ensures value { result.now ≡ self.now }
         ensures no_zero { HasNoZero result.now }

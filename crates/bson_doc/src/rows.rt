@@ -59,6 +59,7 @@ impl<T> Rows<T> {
         self.items.len()
     }
 
+    /// The items, in order.
     pub fn as_slice(&self) -> &[T]
         ensures { result.now ≡ self.now }
     {

@@ -1,4 +1,7 @@
-use crate::{Buffer, Bytes, Document, HasNul, Name, Rows, Text, Value, is_one};
+use crate::{
+    Buffer, Bytes, ClusterTime, Document, HasNul, Lsid, Name, Oid, Rows, Text, TopologyVersion,
+    Value, is_one,
+};
 use std::alloc::Global;
 use std::test::Fail;
 
@@ -70,13 +73,137 @@ fn a_hundred_levels_are_copied_and_dropped(rt: HostRuntime) -> Result<(), Fail> 
     Ok(())
 }
 
+/// A document with one field of each kind that holds a text, bytes or a document, each under its kind's name.
+fn held_kinds(alloc: Global) -> Result<Document, Fail> {
+    let mut document = Document::new(alloc);
+    document.push(
+        name(alloc, "binary")?,
+        Value::Binary {
+            subtype: 4,
+            bytes: Bytes::take(alloc, &[1, 2])?,
+        },
+    )?;
+    document.push(
+        name(alloc, "regex")?,
+        Value::Regex {
+            pattern: name(alloc, "^a")?,
+            options: name(alloc, "ix")?,
+        },
+    )?;
+    document.push(
+        name(alloc, "pointer")?,
+        Value::DbPointer {
+            space: Text::take(alloc, "db.c")?,
+            oid: Oid([7; 12]),
+        },
+    )?;
+    let mut scope = Document::new(alloc);
+    scope.push(name(alloc, "x")?, Value::Int64(-1))?;
+    document.push(
+        name(alloc, "scope")?,
+        Value::Scope {
+            code: Text::take(alloc, "x")?,
+            scope,
+        },
+    )?;
+    Ok(document)
+}
+
+fn is_binary(value: Option<&Value>, wanted: u8, held: &[u8]) -> bool {
+    match value {
+        Some(Value::Binary { subtype, bytes }) => *subtype == wanted && bytes.as_slice() == held,
+        _ => false,
+    }
+}
+
+fn is_regex(value: Option<&Value>, first: &str, second: &str) -> bool {
+    match value {
+        Some(Value::Regex { pattern, options }) => {
+            pattern.as_str() == first && options.as_str() == second
+        }
+        _ => false,
+    }
+}
+
+fn is_pointer(value: Option<&Value>, wanted: &str, id: Oid) -> bool {
+    match value {
+        Some(Value::DbPointer { space, oid }) => space.as_str() == wanted && *oid == id,
+        _ => false,
+    }
+}
+
+fn is_scope(value: Option<&Value>, wanted: &str, x: i64) -> bool {
+    match value {
+        Some(Value::Scope { code, scope }) => {
+            code.as_str() == wanted && matches!(scope.get("x"), Some(Value::Int64(n)) if *n == x)
+        }
+        _ => false,
+    }
+}
+
 #[test]
-fn one_is_an_int32_or_a_double(rt: HostRuntime) -> Result<(), Fail> {
+fn what_a_copy_holds_is_what_was_held(rt: HostRuntime) -> Result<(), Fail> {
+    let held = held_kinds(rt.alloc())?;
+    let copy = held.copy(rt.alloc())?;
+    assert!(rt; is_binary(copy.get("binary"), 4, &[1, 2]));
+    assert!(rt; is_regex(copy.get("regex"), "^a", "ix"));
+    assert!(rt; is_pointer(copy.get("pointer"), "db.c", Oid([7; 12])));
+    assert!(rt; is_scope(copy.get("scope"), "x", -1));
+    Ok(())
+}
+
+#[test]
+fn the_scope_of_code_counts_for_the_depth(rt: HostRuntime) -> Result<(), Fail> {
+    assert_eq!(rt; held_kinds(rt.alloc())?.depth(), 2);
+    Ok(())
+}
+
+#[test]
+fn one_is_a_whole_number_or_a_double(rt: HostRuntime) -> Result<(), Fail> {
     assert!(rt; is_one(&Value::Int32(1)));
+    assert!(rt; is_one(&Value::Int64(1)));
     assert!(rt; is_one(&Value::Double([0, 0, 0, 0, 0, 0, 0xf0, 0x3f])));
     assert!(rt; !is_one(&Value::Int32(-1)));
+    assert!(rt; !is_one(&Value::Int64(4_294_967_297)));
     assert!(rt; !is_one(&Value::Double([1, 0, 0, 0, 0, 0, 0xf0, 0x3f])));
     assert!(rt; !is_one(&Value::Bool(true)));
+    assert!(rt; !is_one(&Value::Stamp(1)));
+    Ok(())
+}
+
+#[test]
+fn ids_are_ordered_by_their_bytes_from_the_first_on(rt: HostRuntime) -> Result<(), Fail> {
+    let mut low = [0xff; 12];
+    low[0] = 1;
+    let mut high = [0; 12];
+    high[0] = 2;
+    assert!(rt; Oid(low) < Oid(high));
+    assert!(rt; Oid(low) == Oid(low));
+    let mut last = [0; 16];
+    last[15] = 1;
+    assert!(rt; Lsid([0; 16]) < Lsid(last));
+    Ok(())
+}
+
+#[test]
+fn versions_differ_by_process_or_counter(rt: HostRuntime) -> Result<(), Fail> {
+    let alloc = rt.alloc();
+    let version = TopologyVersion {
+        process: Oid([1; 12]),
+        counter: 6,
+    };
+    assert!(rt; version == version);
+    let later = TopologyVersion {
+        process: Oid([1; 12]),
+        counter: 7,
+    };
+    assert!(rt; version != later);
+    let time = ClusterTime {
+        stamp: 0x8000_0000_0000_0001,
+        body: sample(alloc)?,
+    };
+    assert_eq!(rt; time.stamp >> 32, 0x8000_0000);
+    assert_eq!(rt; time.body.depth(), 3);
     Ok(())
 }
 

@@ -58,6 +58,7 @@ impl Text {
         self.text.len()
     }
 
+    /// The text.
     pub fn as_str(&self) -> &str
         ensures value { result.now ≡ self.now }
         ensures utf8 { IsUtf8 result.now }

@@ -2,22 +2,23 @@
 -- what was taken, and what is spelled so is read, whatever follows. `R` reads an inner document, `Inner` spells it.
 use Rattle.std.proofs.Common.{◌≡◌, ℕ, zero, suc, ◌+◌, ◌-◌, ◌≤◌, cond, eqb, List, [], ◌∷◌, ◌++◌, length, take, drop, Option, Some, None, Ok, refl, sym, ap, subst, ◌∙◌, append_assoc, arith, inl, inr}
 use Rattle.std.proofs.lemmas.Bool.{cases_Bool, cond-true, cond-false, eqb-true}
-use Rattle.std.proofs.lemmas.List.{take_at, drop_at, take-append-drop, length-append, length-take-le}
+use Rattle.std.proofs.lemmas.List.{take_at, drop_at, take-append-drop, length-append, length-take-le, append-nil}
 use Rattle.bson_doc.specs.declared.name.Name.{Name}
 use Rattle.bson_doc.specs.declared.value.Document.{Document}
 use Rattle.bson_doc.specs.declared.value.Value.{Value, Value-F, out-Value, roll-Value, roll-out-Value}
 use Rattle.bson_doc.specs.declared.value.Value.TheVariants as value
-use Rattle.bson_doc.specs.declared.value.Value.TheVariants.{rolls-Doc, rolls-Array, outs-Doc, outs-Array}
+use Rattle.bson_doc.specs.declared.value.Value.TheVariants.{rolls-Doc, rolls-Array, rolls-Scope, outs-Doc, outs-Array, outs-Scope}
 use Rattle.bson_doc.specs.declared.value.Value.TheOpen as layer
 use Rattle.bson_wire.specs.declared.kind.Kind.{Kind}
 use Rattle.bson_wire.specs.declared.kind.Kind.TheVariants as kinds
 use Rattle.bson_wire.specs.declared.kind.PlainKind.TheVariants as plain
 use Rattle.bson_wire.specs.declared.fault.BsonFault.{BsonFault}
 use Rattle.bson_wire.specs.Kinds.{byte_of, kind_of_byte}
-use Rattle.bson_wire.specs.Spelling.{IsArray, IsPayload, IsElement, AreElements, SpellsWithin, values}
-use Rattle.bson_wire.specs.Reading.{◌>>=◌, Read, or_fault, no_kind, kind_at, behind_zero, name_at, value_at, element_at, elements_at, body_at, length_at, document_at, unnamed_document}
+use Rattle.bson_wire.specs.Spelling.{IsNumber32, IsString, IsArray, IsScope, IsPayload, IsElement, AreElements, SpellsWithin, values}
+use Rattle.bson_wire.specs.Reading.{◌>>=◌, Read, or_fault, no_kind, kind_at, behind_zero, name_at, string_at, no_more, inside_scope_at, scope_at, value_at, element_at, elements_at, body_at, length_at, document_at, unnamed_document}
 use Rattle.bson_wire.proofs.Steps.{bind_ok, ok_is, mapped-Ok}
-use Rattle.bson_wire.proofs.Fields.{plain_takes, plain_again, name_takes, name_again, zero_takes, length_takes, length_again}
+use Rattle.bson_wire.proofs.Fields.{Took, name_takes, name_again, string_takes, string_again, zero_takes, length_takes, length_again}
+use Rattle.bson_wire.proofs.PlainValues.{plain_takes, plain_again}
 use Rattle.bson_wire.proofs.Loop.{document_of}
 
 abbrev pub Reader : Type 0
@@ -36,7 +37,81 @@ abbrev pub TakesAll : Reader → (List ℕ → Document → Type 0) → Type 0
 TakesAll R Inner = (end : ℕ) (bytes : List ℕ) (x : Document × List ℕ) → R end bytes ≡ Ok x → Takes Inner bytes x.0 x.1
 
 abbrev pub ReadsAll : Reader → (List ℕ → Document → Type 0) → Type 0
-ReadsAll R Inner = (end : ℕ) (text rest : List ℕ) (d : Document) → Inner text d → R end (text ++ rest) ≡ Ok (d, rest)
+ReadsAll R Inner = (end : ℕ) (text rest : List ℕ) (d : Document) → Inner text d → (R end (text ++ rest) ≡ Ok (d, rest)) × (5 ≤ length text)
+
+-- ---- code with a scope
+
+no_more_takes : (at : ℕ) (bytes left : List ℕ) → no_more at bytes ≡ Ok left → bytes ≡ []
+no_more_takes at [] left e = refl
+no_more_takes at (b ∷ bs) left e = absurd cc
+
+-- what was taken for the string and the document of a scope
+record TakesInside (Inner : List ℕ → Document → Type 0) (bytes code : List ℕ) (scope : Document) : Type 0 where
+  string : List ℕ
+  document : List ℕ
+  parts : bytes ≡ string ++ document
+  text : IsString string code
+  inner : Inner document scope
+
+inside_takes : (R : Reader) (Inner : List ℕ → Document → Type 0) → TakesAll R Inner → (at end : ℕ) (bytes : List ℕ) (x : List ℕ × Document) → inside_scope_at R at end bytes ≡ Ok x → TakesInside Inner bytes x.0 x.1
+unfolding inside_scope_at
+inside_takes R Inner takes at end bytes x e =
+    let a = bind_ok (string_at end bytes) (λ code. R end code.1 >>= (λ scope. no_more at scope.1 >>= (λ left. Ok (code.0, scope.0)))) x e in
+    let b = bind_ok (R end a.0.1) (λ scope. no_more at scope.1 >>= (λ left. Ok (a.0.0, scope.0))) x a.2 in
+    let c = mapped-Ok (λ left. (a.0.0, b.0.0)) (no_more at b.0.1) x b.2 in
+    let s = string_takes end bytes a.0 a.1 in
+    let t = takes end a.0.1 b.0 b.1 in
+    let all : a.0.1 ≡ t.text = t.parts ∙ ap (λ (xs : List ℕ). t.text ++ xs) (no_more_takes at b.0.1 c.0 c.1) ∙ append-nil t.text in
+    subst (λ (y : List ℕ × Document). TakesInside Inner bytes y.0 y.1) c.2 (record {
+      string = s.spelling;
+      document = t.text;
+      parts = s.parts ∙ ap (λ (xs : List ℕ). s.spelling ++ xs) all;
+      text = s.is;
+      inner = t.inner;
+    })
+
+inside_again : (R : Reader) (Inner : List ℕ → Document → Type 0) → ReadsAll R Inner → (at end : ℕ) (string document code : List ℕ) (scope : Document) → IsString string code → Inner document scope → inside_scope_at R at end (string ++ document) ≡ Ok (code, scope)
+unfolding inside_scope_at
+inside_again R Inner again at end string document code scope text inner =
+    let read : R end document ≡ Ok (scope, []) = ap (R end) (sym (append-nil document)) ∙ (again end document [] scope inner).0 in
+    rw (string_again end string code document text, read) refl
+
+scope_takes : (R : Reader) (Inner : List ℕ → Document → Type 0) → TakesAll R Inner → (end : ℕ) (bytes : List ℕ) (x : (List ℕ × Document) × List ℕ) → scope_at R end bytes ≡ Ok x → Took (λ spelling. IsScope Inner spelling x.0.0 x.0.1) bytes x.1
+unfolding scope_at
+scope_takes R Inner takes end bytes x e =
+    let at : ℕ = end - length bytes in
+    let a = bind_ok (length_at 14 4 end bytes) (λ n. inside_scope_at R at (at + n.0) (take (n.0 - 4) n.1) >>= (λ parts. Ok (parts, drop (n.0 - 4) n.1))) x e in
+    let n : ℕ = a.0.0 in
+    let inside : List ℕ = take (n - 4) a.0.1 in
+    let rest : List ℕ = drop (n - 4) a.0.1 in
+    let b = mapped-Ok (λ parts. (parts, rest)) (inside_scope_at R at (at + n) inside) x a.2 in
+    let l = length_takes 14 4 end bytes a.0 a.1 in
+    let s = inside_takes R Inner takes at (at + n) inside b.0 b.1 in
+    let count : length inside ≡ n - 4 = length-take-le (n - 4) a.0.1 (omega (arith, l.high)) in
+    let total : n ≡ length s.string + length s.document + 4 = omega (arith, count, ap length s.parts, length-append s.string s.document, l.low) in
+    subst (λ (y : (List ℕ × Document) × List ℕ). Took (λ spelling. IsScope Inner spelling y.0.0 y.0.1) bytes y.1) b.2 (record {
+      spelling = l.number ++ (s.string ++ s.document);
+      parts = l.parts ∙ ap (λ (xs : List ℕ). l.number ++ xs) (sym (take-append-drop (n - 4) a.0.1) ∙ ap (λ (xs : List ℕ). xs ++ rest) s.parts) ∙ sym (append_assoc l.number (s.string ++ s.document) rest);
+      is = record { number = l.number; string = s.string; document = s.document; counts = subst (IsNumber32 l.number) total l.counts; parts = refl; text = s.text; inner = s.inner };
+    })
+
+string_least : (bytes text : List ℕ) → IsString bytes text → 5 ≤ length bytes
+string_least bytes text is = omega (arith, ap length is.parts, is.counts.size, length-append is.number (text ++ 0 ∷ []), length-append text (0 ∷ []))
+
+scope_again : (R : Reader) (Inner : List ℕ → Document → Type 0) → ReadsAll R Inner → (end : ℕ) (bytes code : List ℕ) (scope : Document) (rest : List ℕ) → IsScope Inner bytes code scope → scope_at R end (bytes ++ rest) ≡ Ok ((code, scope), rest)
+unfolding scope_at
+scope_again R Inner again end bytes code scope rest is =
+    let n : ℕ = length is.string + length is.document + 4 in
+    let inside : List ℕ = is.string ++ is.document in
+    let behind : List ℕ = inside ++ rest in
+    let regrouped : bytes ++ rest ≡ is.number ++ behind = ap (λ (xs : List ℕ). xs ++ rest) is.parts ∙ append_assoc is.number inside rest in
+    let at : ℕ = end - length (is.number ++ behind) in
+    let size : length inside ≡ n - 4 = omega (arith, length-append is.string is.document) in
+    let front : take (n - 4) behind ≡ inside = take_at inside rest (n - 4) size in
+    let back : drop (n - 4) behind ≡ rest = drop_at inside rest (n - 4) size in
+    let low : 14 ≤ n = omega (arith, string_least is.string code is.text, (again end is.document [] scope is.inner).1) in
+    ap (scope_at R end) regrouped
+    ∙ rw (length_again 14 4 end n is.number behind is.counts low (omega (arith, size, length-append inside rest)), front, back, inside_again R Inner again at (at + n) is.string is.document code scope is.text is.inner) refl
 
 -- ---- values
 
@@ -62,37 +137,41 @@ value_takes R Inner takes start end kinds.Array bytes x e =
       parts = t.parts ∙ ap (λ (xs : List ℕ). t.text ++ xs) (ap (λ (p : List Value × List ℕ). p.1) n.2);
       is = rw (outs-Array m.0.0) (refl, is);
     })
+value_takes R Inner takes start end kinds.Scope bytes x e =
+    let m = mapped-Ok (λ y. (value.Scope y.0.0 y.0.1, y.1)) (scope_at R end bytes) x e in
+    let t = scope_takes R Inner takes end bytes m.0 m.1 in
+    subst (λ (y : Value × List ℕ). TakesValue Inner kinds.Scope bytes y.0 y.1) m.2 (record { payload = t.spelling; parts = t.parts; is = rw (outs-Scope m.0.0.0 m.0.0.1) (refl, t.is) })
 value_takes R Inner takes start end (kinds.Plain kind) bytes x e =
     let t = plain_takes Inner start end kind bytes x e in
     record { payload = t.payload; parts = t.parts; is = t.is }
 
 doc_payload : (Inner : List ℕ → Document → Type 0) (bytes : List ℕ) (w : Value-F Value Document) → IsPayload Inner kinds.Doc bytes w → (d : Document) × (w ≡ layer.Doc d) × Inner bytes d
 doc_payload Inner bytes (layer.Doc d) h = (d, refl, h.1)
-doc_payload Inner bytes (layer.Double raw) h = absurd cc
-doc_payload Inner bytes (layer.Str text) h = absurd cc
-doc_payload Inner bytes (layer.Array items) h = absurd cc
-doc_payload Inner bytes (layer.Bool b) h = absurd cc
-doc_payload Inner bytes (layer.Int32 n) h = absurd cc
+doc_payload Inner bytes w h = absurd cc
 
 array_payload : (Inner : List ℕ → Document → Type 0) (bytes : List ℕ) (w : Value-F Value Document) → IsPayload Inner kinds.Array bytes w → (items : List Value) × (w ≡ layer.Array items) × IsArray Inner bytes items
 array_payload Inner bytes (layer.Array items) h = (items, refl, h.1)
-array_payload Inner bytes (layer.Double raw) h = absurd cc
-array_payload Inner bytes (layer.Str text) h = absurd cc
-array_payload Inner bytes (layer.Doc d) h = absurd cc
-array_payload Inner bytes (layer.Bool b) h = absurd cc
-array_payload Inner bytes (layer.Int32 n) h = absurd cc
+array_payload Inner bytes w h = absurd cc
+
+scope_payload : (Inner : List ℕ → Document → Type 0) (bytes : List ℕ) (w : Value-F Value Document) → IsPayload Inner kinds.Scope bytes w → (code : List ℕ) × (scope : Document) × (w ≡ layer.Scope code scope) × IsScope Inner bytes code scope
+scope_payload Inner bytes (layer.Scope code scope) h = (code, scope, refl, h.1)
+scope_payload Inner bytes w h = absurd cc
 
 value_again : (R : Reader) (Inner : List ℕ → Document → Type 0) → ReadsAll R Inner → (start end : ℕ) (kind : Kind) (payload rest : List ℕ) (v : Value) → IsPayload Inner kind payload (out-Value v) → value_at R start end kind (payload ++ rest) ≡ Ok (v, rest)
 unfolding value_at
 value_again R Inner again start end kinds.Doc payload rest v h =
     let p = doc_payload Inner payload (out-Value v) h in
     let made : value.Doc p.0 ≡ v = sym (rolls-Doc p.0) ∙ ap roll-Value (sym p.1) ∙ roll-out-Value v in
-    rw (again end payload rest p.0 p.2) (ap (λ (u : Value). Ok (u, rest)) made)
+    rw ((again end payload rest p.0 p.2).0) (ap (λ (u : Value). Ok (u, rest)) made)
 value_again R Inner again start end kinds.Array payload rest v h =
     let p = array_payload Inner payload (out-Value v) h in
     let made : value.Array p.0 ≡ v = sym (rolls-Array p.0) ∙ ap roll-Value (sym p.1) ∙ roll-out-Value v in
     let is : IsArray Inner payload p.0 = p.2 in
-    rw (again end payload rest is.document is.inner) (ap (λ (vs : List Value). Ok (value.Array vs, rest)) is.same ∙ ap (λ (u : Value). Ok (u, rest)) made)
+    rw ((again end payload rest is.document is.inner).0) (ap (λ (vs : List Value). Ok (value.Array vs, rest)) is.same ∙ ap (λ (u : Value). Ok (u, rest)) made)
+value_again R Inner again start end kinds.Scope payload rest v h =
+    let p = scope_payload Inner payload (out-Value v) h in
+    let made : value.Scope p.0 p.1 ≡ v = sym (rolls-Scope p.0 p.1) ∙ ap roll-Value (sym p.2) ∙ roll-out-Value v in
+    rw (scope_again R Inner again end payload p.0 p.1 rest p.3) (ap (λ (u : Value). Ok (u, rest)) made)
 value_again R Inner again start end (kinds.Plain kind) payload rest v h =
     plain_again Inner start end kind payload rest v (out-Value v) (roll-out-Value v) h
 
@@ -101,10 +180,25 @@ value_again R Inner again start end (kinds.Plain kind) payload rest v h =
 kind_again : (start at : ℕ) (kind : Kind) → kind_at start at (byte_of kind) ≡ Ok kind
 kind_again start at kinds.Doc = refl
 kind_again start at kinds.Array = refl
+kind_again start at kinds.Scope = refl
 kind_again start at (kinds.Plain plain.Double) = refl
 kind_again start at (kinds.Plain plain.Str) = refl
+kind_again start at (kinds.Plain plain.Binary) = refl
+kind_again start at (kinds.Plain plain.Undefined) = refl
+kind_again start at (kinds.Plain plain.Oid) = refl
 kind_again start at (kinds.Plain plain.Bool) = refl
+kind_again start at (kinds.Plain plain.Date) = refl
+kind_again start at (kinds.Plain plain.Null) = refl
+kind_again start at (kinds.Plain plain.Regex) = refl
+kind_again start at (kinds.Plain plain.DbPointer) = refl
+kind_again start at (kinds.Plain plain.Code) = refl
+kind_again start at (kinds.Plain plain.Symbol) = refl
 kind_again start at (kinds.Plain plain.Int32) = refl
+kind_again start at (kinds.Plain plain.Stamp) = refl
+kind_again start at (kinds.Plain plain.Int64) = refl
+kind_again start at (kinds.Plain plain.Decimal) = refl
+kind_again start at (kinds.Plain plain.Max) = refl
+kind_again start at (kinds.Plain plain.Min) = refl
 
 some_is : (a b : Kind) → Some a ≡ Some b → a ≡ b
 some_is a b e = cc
@@ -125,8 +219,23 @@ kind_of_byte-Some b kind =
     picked b 0x02 kind (kinds.Plain plain.Str) _ refl (
     picked b 0x03 kind kinds.Doc _ refl (
     picked b 0x04 kind kinds.Array _ refl (
+    picked b 0x05 kind (kinds.Plain plain.Binary) _ refl (
+    picked b 0x06 kind (kinds.Plain plain.Undefined) _ refl (
+    picked b 0x07 kind (kinds.Plain plain.Oid) _ refl (
     picked b 0x08 kind (kinds.Plain plain.Bool) _ refl (
-    picked b 0x10 kind (kinds.Plain plain.Int32) None refl (λ e. absurd cc))))))
+    picked b 0x09 kind (kinds.Plain plain.Date) _ refl (
+    picked b 0x0a kind (kinds.Plain plain.Null) _ refl (
+    picked b 0x0b kind (kinds.Plain plain.Regex) _ refl (
+    picked b 0x0c kind (kinds.Plain plain.DbPointer) _ refl (
+    picked b 0x0d kind (kinds.Plain plain.Code) _ refl (
+    picked b 0x0e kind (kinds.Plain plain.Symbol) _ refl (
+    picked b 0x0f kind kinds.Scope _ refl (
+    picked b 0x10 kind (kinds.Plain plain.Int32) _ refl (
+    picked b 0x11 kind (kinds.Plain plain.Stamp) _ refl (
+    picked b 0x12 kind (kinds.Plain plain.Int64) _ refl (
+    picked b 0x13 kind (kinds.Plain plain.Decimal) _ refl (
+    picked b 0x7f kind (kinds.Plain plain.Max) _ refl (
+    picked b 0xff kind (kinds.Plain plain.Min) None refl (λ e. absurd cc)))))))))))))))))))))
 
 or_fault-Some : (f : BsonFault) (o : Option Kind) (kind : Kind) → or_fault f o ≡ Ok kind → o ≡ Some kind
 or_fault-Some f None kind e = absurd cc
@@ -250,5 +359,7 @@ document_again (suc levels) end text rest d h =
     let all : List ℕ = h.number ++ behind in
     let regrouped : text ++ rest ≡ all =
     ap (λ (xs : List ℕ). xs ++ rest) h.parts ∙ append_assoc h.number (h.body ++ 0 ∷ []) rest ∙ ap (λ (xs : List ℕ). h.number ++ xs) (append_assoc h.body (0 ∷ []) rest) in
+    let read : document_at (suc levels) end (text ++ rest) ≡ Ok (d, rest) =
     ap (document_at (suc levels) end) regrouped
-    ∙ rw (length_again 5 4 end n h.number behind h.counts (omega arith) (omega (arith, length-append h.body (0 ∷ rest)))) (body_again R (SpellsWithin levels) (document_again levels) (end - length all) h.body rest d h.elements)
+    ∙ rw (length_again 5 4 end n h.number behind h.counts (omega arith) (omega (arith, length-append h.body (0 ∷ rest)))) (body_again R (SpellsWithin levels) (document_again levels) (end - length all) h.body rest d h.elements) in
+    (read, omega (arith, ap length h.parts, h.counts.size, length-append h.number (h.body ++ 0 ∷ []), length-append h.body (0 ∷ [])))

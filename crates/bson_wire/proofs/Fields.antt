@@ -1,20 +1,11 @@
 -- The parts of values: what is read of them is spelled so, and what is spelled so is read, whatever follows.
-use Rattle.std.proofs.Common.{◌≡◌, ℕ, zero, suc, ◌+◌, ◌-◌, ◌≤◌, Bool, true, false, cond, ltb, ◌||◌, List, [], ◌∷◌, ◌++◌, length, take, drop, Ok, Err, refl, sym, ap, subst, ◌∙◌, append_assoc, arith}
-use Rattle.std.specs.Int.{w32, cast_signed}
+use Rattle.std.proofs.Common.{◌≡◌, ℕ, zero, suc, ◌+◌, ◌-◌, ◌≤◌, false, cond, ltb, ◌||◌, List, [], ◌∷◌, ◌++◌, length, take, drop, Ok, Err, refl, sym, ap, subst, ◌∙◌, append_assoc, arith}
 use Rattle.std.proofs.lemmas.Bool.{cond-false, ltb-false, le-ltb, or_parts, or_from}
 use Rattle.std.proofs.lemmas.List.{take_at, drop_at, take-append-drop, length-append, length-take-le}
 use Rattle.byteorder.specs.Endian.{little_number}
-use Rattle.bson_doc.specs.declared.value.Document.{Document}
-use Rattle.bson_doc.specs.declared.value.Value.{Value, Value-F, out-Value, roll-Value}
-use Rattle.bson_doc.specs.declared.value.Value.TheVariants as value
-use Rattle.bson_doc.specs.declared.value.Value.TheVariants.{rolls-Double, rolls-Str, rolls-Bool, rolls-Int32, outs-Double, outs-Str, outs-Bool, outs-Int32}
-use Rattle.bson_doc.specs.declared.value.Value.TheOpen as layer
 use Rattle.bson_wire.specs.declared.fault.BsonFault.TheVariants as fault
-use Rattle.bson_wire.specs.declared.kind.Kind.TheVariants as kinds
-use Rattle.bson_wire.specs.declared.kind.PlainKind.{PlainKind}
-use Rattle.bson_wire.specs.declared.kind.PlainKind.TheVariants as plain
-use Rattle.bson_wire.specs.Spelling.{IsInt32, IsString, IsName, IsPayload, truth_byte}
-use Rattle.bson_wire.specs.Reading.{◌>>=◌, or_fault, bytes_at, until_zero, behind_zero, text_at, name_at, length_at, string_at, bool_at, plain_at}
+use Rattle.bson_wire.specs.Spelling.{IsNumber32, IsString, IsName, IsBinary, IsRegex, IsDbPointer}
+use Rattle.bson_wire.specs.Reading.{◌>>=◌, or_fault, byte_at, bytes_at, until_zero, behind_zero, text_at, name_at, length_at, string_at, binary_at, regex_at, pointer_at}
 use Rattle.bson_wire.proofs.Steps.{bind_ok, guard_ok, ok_is, mapped-Ok}
 use Rattle.bson_wire.proofs.Texts.{text_at-utf8, text_at-Ok, until_zero-Some, or_fault-Ok, until_zero-name}
 
@@ -32,6 +23,12 @@ bytes_again at n text rest e =
     cond-false (ltb (length all) n) (Err (fault.Length at)) (Ok (take n all, drop n all)) (le-ltb _ _ (omega (arith, length-append text rest)))
     ∙ ap (λ (xs : List ℕ). Ok (xs, drop n all)) (take_at text rest n e) ∙ ap (λ (xs : List ℕ). Ok (text, xs)) (drop_at text rest n e)
 
+-- ---- a byte
+
+pub byte_takes : (at : ℕ) (bytes : List ℕ) (x : ℕ × List ℕ) → byte_at at bytes ≡ Ok x → bytes ≡ x.0 ∷ x.1
+byte_takes at [] x e = absurd cc
+byte_takes at (b ∷ bs) x e = subst (λ (y : ℕ × List ℕ). b ∷ bs ≡ y.0 ∷ y.1) (ok_is (b, bs) x e) refl
+
 -- ---- a 00
 
 pub zero_takes : (at : ℕ) (bytes rest : List ℕ) → behind_zero at bytes ≡ Ok rest → bytes ≡ 0 ∷ rest
@@ -44,7 +41,7 @@ zero_takes at (suc b ∷ bs) rest e = absurd cc
 -- what is said of a length that was read
 pub record IsLength (least own : ℕ) (bytes : List ℕ) (n : ℕ) (rest : List ℕ) : Type 0 where
   pub number : List ℕ
-  pub counts : IsInt32 number n
+  pub counts : IsNumber32 number n
   pub parts : bytes ≡ number ++ rest
   pub low : least ≤ n
   pub high : n ≤ length rest + own
@@ -66,7 +63,7 @@ length_takes least own end bytes x e =
       high = ltb-false _ _ tests.1;
     })
 
-pub length_again : (least own end n : ℕ) (number rest : List ℕ) → IsInt32 number n → least ≤ n → n ≤ length rest + own → length_at least own end (number ++ rest) ≡ Ok (n, rest)
+pub length_again : (least own end n : ℕ) (number rest : List ℕ) → IsNumber32 number n → least ≤ n → n ≤ length rest + own → length_at least own end (number ++ rest) ≡ Ok (n, rest)
 unfolding length_at
 length_again least own end n number rest counts low high =
     let at : ℕ = end - length (number ++ rest) in
@@ -91,11 +88,15 @@ unfolding name_at
 name_again start end name rest is =
     rw (until_zero-name name rest is.no_zero, text_at-utf8 (end - length (name ++ 0 ∷ rest)) name is.utf8) refl
 
--- what was taken for a string
-pub record TakesString (bytes text rest : List ℕ) : Type 0 where
+-- what was taken of some bytes
+pub record Took (Is : List ℕ → Type 0) (bytes rest : List ℕ) : Type 0 where
   pub spelling : List ℕ
   pub parts : bytes ≡ spelling ++ rest
-  pub is : IsString spelling text
+  pub is : Is spelling
+
+-- what was taken for a string
+abbrev pub TakesString : List ℕ → List ℕ → List ℕ → Type 0
+TakesString bytes text rest = Took (λ spelling. IsString spelling text) bytes rest
 
 pub string_takes : (end : ℕ) (bytes : List ℕ) (x : List ℕ × List ℕ) → string_at end bytes ≡ Ok x → TakesString bytes x.0 x.1
 unfolding string_at
@@ -116,7 +117,7 @@ string_takes end bytes x e =
     subst (λ (y : List ℕ × List ℕ). TakesString bytes y.0 y.1) (ap (λ (w : List ℕ). (w, b.0)) t.0 ∙ c.2) (record {
       spelling = l.number ++ (text ++ 0 ∷ []);
       parts = whole;
-      is = record { number = l.number; counts = subst (IsInt32 l.number) (sym size) l.counts; parts = refl; utf8 = t.1 };
+      is = record { number = l.number; counts = subst (IsNumber32 l.number) (sym size) l.counts; parts = refl; utf8 = t.1 };
     })
 
 pub string_again : (end : ℕ) (bytes text rest : List ℕ) → IsString bytes text → string_at end (bytes ++ rest) ≡ Ok (text, rest)
@@ -131,60 +132,71 @@ string_again end bytes text rest is =
     ap (string_at end) regrouped
     ∙ rw (length_again 1 0 end n is.number behind is.counts (omega arith) (omega (arith, length-append text (0 ∷ rest))), back, front, text_at-utf8 (end - length behind) text is.utf8) refl
 
--- ---- values that hold no document
+-- ---- binaries, regular expressions, pointers
 
--- what was taken for a value of a plain kind
-pub record TakesPlain (Inner : List ℕ → Document → Type 0) (kind : PlainKind) (bytes : List ℕ) (v : Value) (rest : List ℕ) : Type 0 where
-  pub payload : List ℕ
-  pub parts : bytes ≡ payload ++ rest
-  pub is : IsPayload Inner (kinds.Plain kind) payload (out-Value v)
+pub binary_takes : (end : ℕ) (bytes : List ℕ) (x : (ℕ × List ℕ) × List ℕ) → binary_at end bytes ≡ Ok x → Took (λ spelling. IsBinary spelling x.0.0 x.0.1) bytes x.1
+unfolding binary_at
+binary_takes end bytes x e =
+    let at : ℕ = end - length bytes in
+    let a = bind_ok (length_at 0 0 end bytes) (λ n. byte_at at n.1 >>= (λ subtype. bytes_at at n.0 subtype.1 >>= (λ held. Ok ((subtype.0, held.0), held.1)))) x e in
+    let b = bind_ok (byte_at at a.0.1) (λ subtype. bytes_at at a.0.0 subtype.1 >>= (λ held. Ok ((subtype.0, held.0), held.1))) x a.2 in
+    let c = mapped-Ok (λ held. ((b.0.0, held.0), held.1)) (bytes_at at a.0.0 b.0.1) x b.2 in
+    let l = length_takes 0 0 end bytes a.0 a.1 in
+    let s = byte_takes at a.0.1 b.0 b.1 in
+    let t = bytes_take at a.0.0 b.0.1 c.0 c.1 in
+    let held : List ℕ = b.0.0 ∷ c.0.0 in
+    subst (λ (y : (ℕ × List ℕ) × List ℕ). Took (λ spelling. IsBinary spelling y.0.0 y.0.1) bytes y.1) c.2 (record {
+      spelling = l.number ++ held;
+      parts = l.parts ∙ ap (λ (xs : List ℕ). l.number ++ xs) (s ∙ ap (λ (xs : List ℕ). b.0.0 ∷ xs) t.0) ∙ sym (append_assoc l.number held c.0.1);
+      is = record { number = l.number; counts = subst (IsNumber32 l.number) (sym t.1) l.counts; parts = refl };
+    })
 
-bool_takes : (Inner : List ℕ → Document → Type 0) (start end : ℕ) (bytes : List ℕ) (x : Value × List ℕ) → bool_at start end bytes ≡ Ok x → TakesPlain Inner plain.Bool bytes x.0 x.1
-unfolding bool_at
-bool_takes Inner start end [] x e = absurd cc
-bool_takes Inner start end (zero ∷ rest) x e =
-    subst (λ (y : Value × List ℕ). TakesPlain Inner plain.Bool (0 ∷ rest) y.0 y.1) (ok_is _ x e) (record { payload = 0 ∷ []; parts = refl; is = rw (outs-Bool false) (refl, refl) })
-bool_takes Inner start end (suc zero ∷ rest) x e =
-    subst (λ (y : Value × List ℕ). TakesPlain Inner plain.Bool (1 ∷ rest) y.0 y.1) (ok_is _ x e) (record { payload = 1 ∷ []; parts = refl; is = rw (outs-Bool true) (refl, refl) })
-bool_takes Inner start end (suc (suc b) ∷ rest) x e = absurd cc
+pub binary_again : (end : ℕ) (bytes : List ℕ) (subtype : ℕ) (held rest : List ℕ) → IsBinary bytes subtype held → binary_at end (bytes ++ rest) ≡ Ok ((subtype, held), rest)
+unfolding binary_at
+binary_again end bytes subtype held rest is =
+    let behind : List ℕ = subtype ∷ (held ++ rest) in
+    let regrouped : bytes ++ rest ≡ is.number ++ behind = ap (λ (xs : List ℕ). xs ++ rest) is.parts ∙ append_assoc is.number (subtype ∷ held) rest in
+    let at : ℕ = end - length (is.number ++ behind) in
+    ap (binary_at end) regrouped
+    ∙ rw (length_again 0 0 end (length held) is.number behind is.counts (omega arith) (omega (arith, length-append held rest)), bytes_again at (length held) held rest refl) refl
 
-pub plain_takes : (Inner : List ℕ → Document → Type 0) (start end : ℕ) (kind : PlainKind) (bytes : List ℕ) (x : Value × List ℕ) → plain_at start end kind bytes ≡ Ok x → TakesPlain Inner kind bytes x.0 x.1
-unfolding plain_at
-plain_takes Inner start end plain.Double bytes x e =
-    let m = mapped-Ok (λ y. (value.Double y.0, y.1)) (bytes_at start 8 bytes) x e in
-    let t = bytes_take start 8 bytes m.0 m.1 in
-    subst (λ (y : Value × List ℕ). TakesPlain Inner plain.Double bytes y.0 y.1) m.2 (record { payload = m.0.0; parts = t.0; is = rw (outs-Double m.0.0) (refl, t.1, refl) })
-plain_takes Inner start end plain.Str bytes x e =
-    let m = mapped-Ok (λ y. (value.Str y.0, y.1)) (string_at end bytes) x e in
-    let t = string_takes end bytes m.0 m.1 in
-    subst (λ (y : Value × List ℕ). TakesPlain Inner plain.Str bytes y.0 y.1) m.2 (record { payload = t.spelling; parts = t.parts; is = rw (outs-Str m.0.0) (refl, t.is) })
-plain_takes Inner start end plain.Bool bytes x e = bool_takes Inner start end bytes x e
-plain_takes Inner start end plain.Int32 bytes x e =
-    let m = mapped-Ok (λ y. (value.Int32 (cast_signed w32 (little_number 4 y.0)), y.1)) (bytes_at start 4 bytes) x e in
-    let t = bytes_take start 4 bytes m.0 m.1 in
-    subst (λ (y : Value × List ℕ). TakesPlain Inner plain.Int32 bytes y.0 y.1) m.2 (record { payload = m.0.0; parts = t.0; is = rw (outs-Int32 (cast_signed w32 (little_number 4 m.0.0))) (refl, t.1, refl) })
+pub regex_takes : (start end : ℕ) (bytes : List ℕ) (x : (List ℕ × List ℕ) × List ℕ) → regex_at start end bytes ≡ Ok x → Took (λ spelling. IsRegex spelling x.0.0 x.0.1) bytes x.1
+unfolding regex_at
+regex_takes start end bytes x e =
+    let a = bind_ok (name_at start end bytes) (λ pattern. name_at start end pattern.1 >>= (λ options. Ok ((pattern.0, options.0), options.1))) x e in
+    let b = mapped-Ok (λ options. ((a.0.0, options.0), options.1)) (name_at start end a.0.1) x a.2 in
+    let n = name_takes start end bytes a.0 a.1 in
+    let m = name_takes start end a.0.1 b.0 b.1 in
+    let behind : List ℕ = b.0.0 ++ 0 ∷ [] in
+    subst (λ (y : (List ℕ × List ℕ) × List ℕ). Took (λ spelling. IsRegex spelling y.0.0 y.0.1) bytes y.1) b.2 (record {
+      spelling = a.0.0 ++ 0 ∷ behind;
+      parts = n.0 ∙ ap (λ (xs : List ℕ). a.0.0 ++ 0 ∷ xs) (m.0 ∙ sym (append_assoc b.0.0 (0 ∷ []) b.0.1)) ∙ sym (append_assoc a.0.0 (0 ∷ behind) b.0.1);
+      is = record { parts = refl; first = n.1; second = m.1 };
+    })
 
-bool_again : (start end : ℕ) (b : Bool) (rest : List ℕ) → bool_at start end (truth_byte b ∷ rest) ≡ Ok (value.Bool b, rest)
-unfolding bool_at
-bool_again start end true rest = refl
-bool_again start end false rest = refl
+pub regex_again : (start end : ℕ) (bytes pattern options rest : List ℕ) → IsRegex bytes pattern options → regex_at start end (bytes ++ rest) ≡ Ok ((pattern, options), rest)
+unfolding regex_at
+regex_again start end bytes pattern options rest is =
+    let behind : List ℕ = options ++ 0 ∷ rest in
+    let regrouped : bytes ++ rest ≡ pattern ++ 0 ∷ behind =
+    ap (λ (xs : List ℕ). xs ++ rest) is.parts ∙ append_assoc pattern (0 ∷ (options ++ 0 ∷ [])) rest ∙ ap (λ (xs : List ℕ). pattern ++ 0 ∷ xs) (append_assoc options (0 ∷ []) rest) in
+    ap (regex_at start end) regrouped ∙ rw (name_again start end pattern behind is.first, name_again start end options rest is.second) refl
 
-same_plain : (a b : PlainKind) → kinds.Plain a ≡ kinds.Plain b → a ≡ b
-same_plain a b e = cc
+pub pointer_takes : (start end : ℕ) (bytes : List ℕ) (x : (List ℕ × List ℕ) × List ℕ) → pointer_at start end bytes ≡ Ok x → Took (λ spelling. IsDbPointer spelling x.0.0 x.0.1) bytes x.1
+unfolding pointer_at
+pointer_takes start end bytes x e =
+    let a = bind_ok (string_at end bytes) (λ space. bytes_at start 12 space.1 >>= (λ id. Ok ((space.0, id.0), id.1))) x e in
+    let b = mapped-Ok (λ id. ((a.0.0, id.0), id.1)) (bytes_at start 12 a.0.1) x a.2 in
+    let s = string_takes end bytes a.0 a.1 in
+    let t = bytes_take start 12 a.0.1 b.0 b.1 in
+    subst (λ (y : (List ℕ × List ℕ) × List ℕ). Took (λ spelling. IsDbPointer spelling y.0.0 y.0.1) bytes y.1) b.2 (record {
+      spelling = s.spelling ++ b.0.0;
+      parts = s.parts ∙ ap (λ (xs : List ℕ). s.spelling ++ xs) t.0 ∙ sym (append_assoc s.spelling b.0.0 b.0.1);
+      is = record { string = s.spelling; parts = refl; text = s.is; size = t.1 };
+    })
 
-pub plain_again : (Inner : List ℕ → Document → Type 0) (start end : ℕ) (kind : PlainKind) (payload rest : List ℕ) (v : Value) (w : Value-F Value Document) → roll-Value w ≡ v → IsPayload Inner (kinds.Plain kind) payload w → plain_at start end kind (payload ++ rest) ≡ Ok (v, rest)
-unfolding plain_at
-plain_again Inner start end kind payload rest v (layer.Double raw) e h =
-    let made : value.Double raw ≡ v = sym (rolls-Double raw) ∙ e in
-    rw (same_plain kind plain.Double h.0, bytes_again start 8 payload rest h.1, h.2) (ap (λ (u : Value). Ok (u, rest)) made)
-plain_again Inner start end kind payload rest v (layer.Str text) e h =
-    let made : value.Str text ≡ v = sym (rolls-Str text) ∙ e in
-    rw (same_plain kind plain.Str h.0, string_again end payload text rest h.1) (ap (λ (u : Value). Ok (u, rest)) made)
-plain_again Inner start end kind payload rest v (layer.Doc d) e h = absurd cc
-plain_again Inner start end kind payload rest v (layer.Array items) e h = absurd cc
-plain_again Inner start end kind payload rest v (layer.Bool b) e h =
-    let made : value.Bool b ≡ v = sym (rolls-Bool b) ∙ e in
-    rw (same_plain kind plain.Bool h.0, h.1) (bool_again start end b rest ∙ ap (λ (u : Value). Ok (u, rest)) made)
-plain_again Inner start end kind payload rest v (layer.Int32 n) e h =
-    let made : value.Int32 n ≡ v = sym (rolls-Int32 n) ∙ e in
-    rw (same_plain kind plain.Int32 h.0, bytes_again start 4 payload rest h.1, h.2) (ap (λ (u : Value). Ok (u, rest)) made)
+pub pointer_again : (start end : ℕ) (bytes space id rest : List ℕ) → IsDbPointer bytes space id → pointer_at start end (bytes ++ rest) ≡ Ok ((space, id), rest)
+unfolding pointer_at
+pointer_again start end bytes space id rest is =
+    let regrouped : bytes ++ rest ≡ is.string ++ (id ++ rest) = ap (λ (xs : List ℕ). xs ++ rest) is.parts ∙ append_assoc is.string id rest in
+    ap (pointer_at start end) regrouped ∙ rw (string_again end is.string space (id ++ rest) is.text, bytes_again start 12 id rest is.size) refl

@@ -3,8 +3,11 @@ pub mod Texts
 pub mod Payloads
 pub mod Loop
 pub mod Fields
+pub mod PlainValues
 pub mod Documents
 pub mod Outermost
 pub mod Written
+pub mod PlainWritten
+pub mod Lengths
 pub mod Ahead
 pub mod Canonical

@@ -1,77 +1,34 @@
 -- What is written of a value spells it, and how much it is.
-use Rattle.std.proofs.Common.{◌≡◌, ℕ, zero, suc, ℤ, ◌+◌, ◌-◌, ◌^◌, ◌%◌, ◌<◌, ◌≤◌, max, Bool, true, false, List, [], ◌∷◌, ◌++◌, length, take, drop, get_or, map, decimal, Result, Ok, Err, refl, sym, ap, subst, ◌∙◌, append_assoc, add-one, arith, inl, inr}
-use Rattle.std.specs.Prelude.{IsUtf8, FitsSigned, OnOk}
+use Rattle.std.proofs.Common.{◌≡◌, ℕ, zero, suc, ◌+◌, ◌^◌, ◌%◌, ◌<◌, ◌≤◌, max, List, [], ◌∷◌, ◌++◌, length, drop, get_or, map, decimal, Result, Ok, Err, refl, sym, ap, subst, ◌∙◌, append_assoc, add-one, arith, inl, inr}
+use Rattle.std.specs.Prelude.{IsUtf8, OnOk}
 use Rattle.std.specs.List.{AllByRecursion}
-use Rattle.std.specs.Int.{w32, cast_signed, cast_unsigned, from_bool}
-use Rattle.std.proofs.Math.Facts.{Fits-of_z}
-use Rattle.std.proofs.lemmas.Int.{to_z-of_z}
-use Rattle.std.proofs.lemmas.List.{length-append, length-drop, take-append-le, drop-append-le, drop_more, get_or_append_left, get_or_push, length_push}
+use Rattle.std.proofs.lemmas.List.{length-append, drop_more, get_or_append_left, get_or_push, length_push}
 use Rattle.std.proofs.lemmas.Bool.{ne_eqb, cases_lt}
 use Rattle.std.proofs.lemmas.Str.{IsUtf8-from_ascii}
 use Rattle.std.proofs.lemmas.Fmt.{IsAscii-decimal, decimal_by_steps}
-use Rattle.byteorder.specs.Endian.{little_number}
-use Rattle.byteorder.specs.Numbers.{little_number-reads_back}
 use Rattle.bson_doc.specs.Documents.{depth_inside, depth_of, greatest, value_step, document_step}
 use Rattle.bson_doc.specs.declared.name.Name.{Name}
 use Rattle.bson_doc.specs.declared.value.Document.{Document, fold_out-Document}
-use Rattle.bson_doc.specs.declared.value.Value.{Value, Value-F, map-Value, out-Value, fold_out-Value}
+use Rattle.bson_doc.specs.declared.value.Value.{Value, map-Value, out-Value, fold_out-Value}
 use Rattle.bson_doc.specs.declared.value.Value.TheVariants as value
-use Rattle.bson_doc.specs.declared.value.Value.TheVariants.{outs-Double, outs-Str, outs-Doc, outs-Array, outs-Bool, outs-Int32}
+use Rattle.bson_doc.specs.declared.value.Value.TheVariants.{outs-Doc, outs-Array, outs-Scope}
 use Rattle.bson_wire.specs.declared.fault.EncodeFault.{EncodeFault}
 use Rattle.bson_wire.specs.declared.fault.EncodeFault.TheVariants as fault
-use Rattle.bson_wire.specs.Spelling.{IsInt32, IsName, IsArray, IsPayload, IsElement, AreElements, SpellsWithin, Spells, values, truth_byte}
-use Rattle.bson_wire.specs.Spelled.{Payload, int32, string, document, element, numbered, payload, spelled_elements, spelled, spelled_items}
+use Rattle.bson_wire.specs.Spelling.{IsNumber32, IsName, IsArray, IsElement, AreElements, SpellsWithin, Spells, values}
+use Rattle.bson_wire.specs.Spelled.{number32, string, scope, document, element, numbered, payload, spelled_elements, spelled, spelled_items}
 use Rattle.bson_wire.specs.Written.{PayloadSpells, ElementSpells, Stops}
 use Rattle.bson_wire.proofs.Texts.{HasNoZero-from}
-use Rattle.bson_wire.proofs.Payloads.{payload-Double, payload-Str, payload-Doc, payload-Array, payload-Bool, payload-Int32}
+use Rattle.bson_wire.proofs.Payloads.{payload-Doc, payload-Array, payload-Scope}
+use Rattle.bson_wire.proofs.PlainWritten.{spells_by, number32_is, is_string}
 
 abbrev Element : Type 0
 Element = Name × Value
-
-pub OnOk-from : {T E P : Type 0} (r : Result T E) → P → OnOk r P
-OnOk-from (Ok x) p = p
-OnOk-from (Err e) p = tt
 
 -- what stops a writer stops one of more bytes
 pub stops_more : (m n : ℕ) (e : EncodeFault) → m ≤ n → Stops m e → Stops n e
 stops_more m n fault.Deep le h = h
 stops_more m n fault.Long le h = omega arith
 stops_more m n fault.Memory le h = tt
-
--- ---- the end of a document
-
-pub ended_document : (old : List ℕ) (start total : ℕ) → start + 4 ≤ length old → total ≡ length old + 1 - start
-    → (take start (old ++ 0 ∷ []) ++ int32 total) ++ drop (start + 4) (old ++ 0 ∷ []) ≡ take start old ++ document (drop (start + 4) old)
-ended_document old start total le e =
-    let front : take start (old ++ 0 ∷ []) ≡ take start old = take-append-le start old (0 ∷ []) (omega arith) in
-    let back : drop (start + 4) (old ++ 0 ∷ []) ≡ drop (start + 4) old ++ 0 ∷ [] = drop-append-le (start + 4) old (0 ∷ []) le in
-    let count : total ≡ length (drop (start + 4) old) + 5 = omega (arith, length-drop (start + 4) old) in
-    rw (front, back, count) (append_assoc (take start old) (int32 (length (drop (start + 4) old) + 5)) (drop (start + 4) old ++ 0 ∷ []))
-
--- ---- plain values
-
-int32_is : (n : ℕ) → n < 2 ^ 32 → IsInt32 (int32 n) n
-int32_is n lt = record { size = refl; reads = little_number-reads_back 4 n [] lt }
-
-spells_by : (v : Value) (p : Payload) (w : Value-F Value Document) → payload v ≡ p → out-Value v ≡ w → ((levels : ℕ) → depth_inside v ≤ levels → IsPayload (SpellsWithin levels) p.0 p.1 w) → PayloadSpells v
-spells_by v p w e k h = λ levels deep. rw (e, k) (h levels deep)
-
-pub double_spells : (v : Value) (raw : List ℕ) → v ≡ value.Double raw → length raw ≡ 8 → PayloadSpells v
-double_spells v raw e eight = spells_by v _ _ (payload-Double v raw e) (ap out-Value e ∙ outs-Double raw) (λ levels deep. (refl, eight, refl))
-
-pub string_spells : (v : Value) (text : List ℕ) → v ≡ value.Str text → IsUtf8 text → length (string text) ≤ 48000000 → PayloadSpells v
-string_spells v text e utf8 small =
-    let size : length (string text) ≡ length text + 5 = omega (arith, length-append text (0 ∷ [])) in
-    spells_by v _ _ (payload-Str v text e) (ap out-Value e ∙ outs-Str text) (λ levels deep.
-    (refl, record { number = int32 (length text + 1); counts = int32_is (length text + 1) (omega (arith, size)); parts = refl; utf8 = utf8 }))
-
-pub bool_spells : (v : Value) (b : Bool) → v ≡ value.Bool b → PayloadSpells v
-bool_spells v b e = spells_by v _ _ (payload-Bool v b e) (ap out-Value e ∙ outs-Bool b) (λ levels deep. (refl, refl))
-
-pub int32_spells : (v : Value) (n : ℤ) → v ≡ value.Int32 n → FitsSigned w32 n → PayloadSpells v
-int32_spells v n e fits =
-    let same : little_number 4 (int32 (cast_unsigned w32 n)) ≡ cast_unsigned w32 n = little_number-reads_back 4 (cast_unsigned w32 n) [] (omega (arith, Fits-of_z fits)) in
-    spells_by v _ _ (payload-Int32 v n e) (ap out-Value e ∙ outs-Int32 n) (λ levels deep. (refl, refl, ap (cast_signed w32) same ∙ to_z-of_z w32 n fits))
 
 -- ---- documents and arrays
 
@@ -91,6 +48,10 @@ depth_inside-Array v items e =
     ap depth_inside e ∙ fold_out-Value ℕ ℕ value_step document_step (value.Array items) ∙ ap (λ w. value_step (map-Value Value Document ℕ ℕ depth_inside depth_of w)) (outs-Array items)
     ∙ ap (λ (n : ℕ). 1 + n) (greatest-map (λ d. d) depth_inside items)
 
+pub depth_inside-Scope : (v : Value) (code : List ℕ) (d : Document) → v ≡ value.Scope code d → depth_inside v ≡ depth_of d
+depth_inside-Scope v code d e =
+    ap depth_inside e ∙ fold_out-Value ℕ ℕ value_step document_step (value.Scope code d) ∙ ap (λ w. value_step (map-Value Value Document ℕ ℕ depth_inside depth_of w)) (outs-Scope code d)
+
 pub length-document : (body : List ℕ) → length (document body) ≡ length body + 5
 length-document body = omega (arith, length-append body (0 ∷ []))
 
@@ -109,9 +70,9 @@ elements_spell levels (e ∷ es) known deep =
 is_document : (levels : ℕ) (es : List Element) (d : Document) → d.elements ≡ es → AllByRecursion ElementSpells es → greatest (λ e. depth_inside e.1) es ≤ levels → length (document (spelled_elements es)) ≤ 48000000 → SpellsWithin (suc levels) (document (spelled_elements es)) d
 unfolding SpellsWithin
 is_document levels es d same known deep small = record {
-  number = int32 (length (spelled_elements es) + 5);
+  number = number32 (length (spelled_elements es) + 5);
   body = spelled_elements es;
-  counts = int32_is (length (spelled_elements es) + 5) (omega (arith, length-document (spelled_elements es)));
+  counts = number32_is (length (spelled_elements es) + 5) (omega (arith, length-document (spelled_elements es)));
   parts = refl;
   elements = rw same (elements_spell levels es known deep);
 }
@@ -123,6 +84,25 @@ document_spells (suc levels) d known small deep = is_document levels d.elements 
 pub doc_spells : (v : Value) (d : Document) → v ≡ value.Doc d → AllByRecursion ElementSpells d.elements → length (spelled d) ≤ 48000000 → PayloadSpells v
 doc_spells v d e known small =
     spells_by v _ _ (payload-Doc v d e) (ap out-Value e ∙ outs-Doc d) (λ levels deep. (refl, document_spells levels d known small (omega (arith, depth_inside-Doc v d e))))
+
+pub length-scope : (code : List ℕ) (d : Document) → length (scope (string code) (spelled d)) ≡ length (string code) + length (spelled d) + 4
+length-scope code d = omega (arith, length-append (string code) (spelled d))
+
+pub scope_spells : (v : Value) (code : List ℕ) (d : Document) → v ≡ value.Scope code d → IsUtf8 code → AllByRecursion ElementSpells d.elements → length (scope (string code) (spelled d)) ≤ 48000000 → PayloadSpells v
+scope_spells v code d e utf8 known small =
+    let total : length (string code ++ spelled d) ≡ length (string code) + length (spelled d) = length-append (string code) (spelled d) in
+    spells_by v _ _ (payload-Scope v code d e) (ap out-Value e ∙ outs-Scope code d) (λ levels deep. (
+      refl,
+      record {
+        number = number32 (length (string code ++ spelled d) + 4);
+        string = string code;
+        document = spelled d;
+        counts = subst (IsNumber32 (number32 (length (string code ++ spelled d) + 4))) (ap (λ (n : ℕ). n + 4) total) (number32_is (length (string code ++ spelled d) + 4) (omega (arith, length-scope code d, total)));
+        parts = refl;
+        text = is_string code utf8 (omega (arith, length-scope code d));
+        inner = document_spells levels d known (omega (arith, length-scope code d)) (omega (arith, depth_inside-Scope v code d e));
+      },
+    ))
 
 -- an array as the document that spells it
 abbrev numbered_elements : ℕ → List Value → List Element
@@ -219,10 +199,6 @@ known_more P xs i x lt is p others = rw (next_item xs i x lt is) (p, others)
 pub part-le : (old out text left after body : List ℕ) → length old + 4 ≤ length out → left ≡ text ++ after → out ++ left ≡ (old ++ 0 ∷ 0 ∷ 0 ∷ 0 ∷ []) ++ body → length text ≤ length (document body)
 part-le old out text left after body le k h =
     omega (arith, ap length h, ap length k, length-append text after, length-append out left, length-append old (0 ∷ 0 ∷ 0 ∷ 0 ∷ []), length-append (old ++ 0 ∷ 0 ∷ 0 ∷ 0 ∷ []) body, length-document body)
-
-pub truth_is : (b : Bool) → from_bool b ≡ truth_byte b
-truth_is true = refl
-truth_is false = refl
 
 -- ---- the outermost document
 

@@ -1,11 +1,11 @@
 -- Reading from left to right, with the first fault that is met and its place (bsonspec 1.1; own: the names of the faults
 -- and their places, since the standard names none). A reader of elements is given `start`, the place of the length of
 -- their document, and `end`, the place where the bytes end, so that what is left begins at `end - length bytes`.
-use Rattle.std.specs.Prelude.{◌≡◌, ℕ, zero, suc, ◌+◌, ◌-◌, true, false, ◌||◌, List, [], ◌∷◌, length, take, drop, Option, Some, None, Result, Ok, Err, nat_lt, ◌==◌, position, if◌then◌else◌}
+use Rattle.std.specs.Prelude.{◌≡◌, ℕ, zero, suc, ◌+◌, ◌-◌, ℤ, true, false, ◌||◌, List, [], ◌∷◌, length, take, drop, Option, Some, None, Result, Ok, Err, nat_lt, ◌==◌, position, if◌then◌else◌}
 use Rattle.std.specs.Str.{is_utf8}
 use Rattle.std.specs.Str.Lossy.{utf8_valid_len}
 use Rattle.std.specs.Option.{option_map}
-use Rattle.std.specs.Int.{w32, cast_signed}
+use Rattle.std.specs.Int.{w32, w64, cast_signed}
 use Rattle.byteorder.specs.Endian.{little_number}
 use Rattle.bson_doc.specs.declared.name.Name.{Name}
 use Rattle.bson_doc.specs.declared.value.Document.{Document}
@@ -18,6 +18,7 @@ use Rattle.bson_wire.specs.declared.kind.Kind.TheVariants as kinds
 use Rattle.bson_wire.specs.declared.kind.PlainKind.{PlainKind}
 use Rattle.bson_wire.specs.declared.kind.PlainKind.TheVariants as plain
 use Rattle.bson_wire.specs.Kinds.{kind_of_byte}
+use Rattle.bson_wire.specs.Limits.{most_bytes, most_levels}
 use Rattle.bson_wire.specs.Spelling.{values}
 
 -- Reading goes on behind what was read, and stops at a fault.
@@ -54,6 +55,11 @@ or_fault f (Some x) = Ok x
 abbrev pub bytes_at : ℕ → ℕ → List ℕ → Read (List ℕ)
 bytes_at at n bytes = if nat_lt (length bytes) n then Err (fault.Length at) else Ok (take n bytes, drop n bytes)
 
+-- A byte. Where there is none, the length at the place is at fault.
+abbrev pub byte_at : ℕ → List ℕ → Read ℕ
+byte_at at [] = Err (fault.Length at)
+byte_at at (b ∷ rest) = Ok (b, rest)
+
 -- What stands in front of the first 00, and what stands behind it.
 abbrev pub until_zero : List ℕ → Option (List ℕ × List ℕ)
 until_zero bytes = option_map (λ i. (take i bytes, drop (i + 1) bytes)) (position (λ b. b == 0) bytes)
@@ -76,7 +82,8 @@ name_at start end bytes = do
   Ok (name, parts.1)
 
 -- A length field and its number (bsonspec 1.1, int32): at least `least`, and all that it counts is there; `own` is how
--- many bytes of the field itself it counts. Else the fault is at the field.
+-- many bytes of the field itself it counts. Else the fault is at the field. The number is read without sign, so a
+-- negative length is above all that can follow, and has no case of its own.
 unfoldable pub length_at : ℕ → ℕ → ℕ → List ℕ → Read ℕ
 length_at least own end bytes = do
   number ← bytes_at (end - length bytes) 4 bytes
@@ -98,13 +105,77 @@ bool_at start end (zero ∷ rest) = Ok (value.Bool false, rest)
 bool_at start end (suc zero ∷ rest) = Ok (value.Bool true, rest)
 bool_at start end (suc (suc b) ∷ rest) = Err (fault.Bool (end - length (suc (suc b) ∷ rest)) (suc (suc b)))
 
+-- How many bytes, a subtype, and the bytes (bsonspec 1.1, binary). The length is at fault where the subtype or a byte that
+-- it counts is missing.
+unfoldable pub binary_at : ℕ → List ℕ → Read (ℕ × List ℕ)
+binary_at end bytes = do
+  n ← length_at 0 0 end bytes
+  subtype ← byte_at (end - length bytes) n.1
+  held ← bytes_at (end - length bytes) n.0 subtype.1
+  Ok ((subtype.0, held.0), held.1)
+
+-- A pattern and options (bsonspec 1.1, regular expression).
+unfoldable pub regex_at : ℕ → ℕ → List ℕ → Read (List ℕ × List ℕ)
+regex_at start end bytes = do
+  pattern ← name_at start end bytes
+  options ← name_at start end pattern.1
+  Ok ((pattern.0, options.0), options.1)
+
+-- A string and an ObjectId (bsonspec 1.1, DBPointer). No length field counts the twelve bytes of the ObjectId.
+unfoldable pub pointer_at : ℕ → ℕ → List ℕ → Read (List ℕ × List ℕ)
+pointer_at start end bytes = do
+  space ← string_at end bytes
+  id ← bytes_at start 12 space.1
+  Ok ((space.0, id.0), id.1)
+
+-- A signed number of eight bytes (bsonspec 1.1, int64).
+abbrev pub int64_of : List ℕ → ℤ
+int64_of bytes = cast_signed w64 (little_number 8 bytes)
+
 -- A value of a kind that holds no document (bsonspec 1.1, element).
 unfoldable pub plain_at : ℕ → ℕ → PlainKind → List ℕ → Read Value
 plain_at start end plain.Double bytes = bytes_at start 8 bytes >>= (λ x. Ok (value.Double x.0, x.1))
 plain_at start end plain.Str bytes = string_at end bytes >>= (λ x. Ok (value.Str x.0, x.1))
+plain_at start end plain.Binary bytes = binary_at end bytes >>= (λ x. Ok (value.Binary x.0.0 x.0.1, x.1))
+plain_at start end plain.Undefined bytes = Ok (value.Undefined, bytes)
+plain_at start end plain.Oid bytes = bytes_at start 12 bytes >>= (λ x. Ok (value.Oid (record { 0 = x.0 }), x.1))
 plain_at start end plain.Bool bytes = bool_at start end bytes
+plain_at start end plain.Date bytes = bytes_at start 8 bytes >>= (λ x. Ok (value.Date (int64_of x.0), x.1))
+plain_at start end plain.Null bytes = Ok (value.Null, bytes)
+plain_at start end plain.Regex bytes = regex_at start end bytes >>= (λ x. Ok (value.Regex x.0.0 x.0.1, x.1))
+plain_at start end plain.DbPointer bytes =
+    pointer_at start end bytes >>= (λ x. Ok (value.DbPointer x.0.0 (record { 0 = x.0.1 }), x.1))
+plain_at start end plain.Code bytes = string_at end bytes >>= (λ x. Ok (value.Code x.0, x.1))
+plain_at start end plain.Symbol bytes = string_at end bytes >>= (λ x. Ok (value.Symbol x.0, x.1))
 plain_at start end plain.Int32 bytes =
     bytes_at start 4 bytes >>= (λ x. Ok (value.Int32 (cast_signed w32 (little_number 4 x.0)), x.1))
+plain_at start end plain.Stamp bytes = bytes_at start 8 bytes >>= (λ x. Ok (value.Stamp (little_number 8 x.0), x.1))
+plain_at start end plain.Int64 bytes = bytes_at start 8 bytes >>= (λ x. Ok (value.Int64 (int64_of x.0), x.1))
+plain_at start end plain.Decimal bytes = bytes_at start 16 bytes >>= (λ x. Ok (value.Decimal x.0, x.1))
+plain_at start end plain.Min bytes = Ok (value.Min, bytes)
+plain_at start end plain.Max bytes = Ok (value.Max, bytes)
+
+-- That no bytes are left. Where some are, the length at the place is at fault.
+abbrev pub no_more : ℕ → List ℕ → Result (List ℕ) BsonFault
+no_more at [] = Ok []
+no_more at (b ∷ rest) = Err (fault.Length at)
+
+-- A string and a document, which are all of the bytes; `at` is the place of the total that counts them. Inner reads the
+-- document.
+unfoldable pub inside_scope_at : (ℕ → List ℕ → Read Document) → ℕ → ℕ → List ℕ → Result (List ℕ × Document) BsonFault
+inside_scope_at Inner at end bytes = do
+  code ← string_at end bytes
+  scope ← Inner end code.1
+  left ← no_more at scope.1
+  Ok (code.0, scope.0)
+
+-- A total, a string, and a document (bsonspec 1.1, code_w_s): the total is at least 14, since the least string has five
+-- bytes and the least document too, and the string and the document end where it says.
+unfoldable pub scope_at : (ℕ → List ℕ → Read Document) → ℕ → List ℕ → Read (List ℕ × Document)
+scope_at Inner end bytes = do
+  n ← length_at 14 4 end bytes
+  parts ← inside_scope_at Inner (end - length bytes) (end - length bytes + n.0) (take (n.0 - 4) n.1)
+  Ok (parts, drop (n.0 - 4) n.1)
 
 -- Of an element, of elements, and of a document that were read, the values alone: the names of an array are not kept.
 abbrev pub unnamed_element : Read (Name × Value) → Read Value
@@ -120,6 +191,7 @@ unnamed_document read = read >>= (λ x. Ok (values x.0.elements, x.1))
 unfoldable pub value_at : (ℕ → List ℕ → Read Document) → ℕ → ℕ → Kind → List ℕ → Read Value
 value_at Inner start end kinds.Doc bytes = Inner end bytes >>= (λ x. Ok (value.Doc x.0, x.1))
 value_at Inner start end kinds.Array bytes = unnamed_document (Inner end bytes) >>= (λ x. Ok (value.Array x.0, x.1))
+value_at Inner start end kinds.Scope bytes = scope_at Inner end bytes >>= (λ x. Ok (value.Scope x.0.0 x.0.1, x.1))
 value_at Inner start end (kinds.Plain plain) bytes = plain_at start end plain bytes
 
 -- The fault of a type byte that no kind has. A 00 is a document's end that is not its last byte.
@@ -138,7 +210,9 @@ element_at Inner start end byte bytes = do
   x ← value_at Inner start end kind name.1
   Ok ((name.0, x.0), x.1)
 
--- Elements to the end of the bytes (bsonspec 1.1, e_list). The fuel is at least the number of bytes, so it suffices.
+-- Elements to the end of the bytes (bsonspec 1.1, e_list). The fuel counts elements, of which each takes a byte at least:
+-- it begins at the total of the document, which is more than its bytes, so the case without fuel is never reached, and
+-- what it answers is not seen.
 unfoldable pub elements_at : (ℕ → List ℕ → Read Document) → ℕ → ℕ → ℕ → List ℕ → Result (List (Name × Value)) BsonFault
 elements_at Inner fuel start end [] = Ok []
 elements_at Inner zero start end (byte ∷ bytes) = Err fault.Short
@@ -155,7 +229,7 @@ body_at Inner start n bytes = do
   rest ← behind_zero start (drop (n - 5) bytes)
   Ok (record { elements = elements }, rest)
 
--- A document inside another, where so many levels are left. No level is left for one at depth 101.
+-- A document inside another, where so many levels are left. No level is left for one that would be a level too many.
 unfoldable pub document_at : ℕ → ℕ → List ℕ → Read Document
 document_at zero end bytes = Err (fault.Deep (end - length bytes))
 document_at (suc levels) end bytes =
@@ -167,9 +241,9 @@ unfoldable pub read : List ℕ → Read Document
 read bytes =
     if nat_lt (length bytes) 4 then Err fault.Short else
     let n = little_number 4 (take 4 bytes) in
-    if nat_lt n 5 || nat_lt 48000000 n then Err (fault.Length 0) else
+    if nat_lt n 5 || nat_lt most_bytes n then Err (fault.Length 0) else
     if nat_lt (length bytes) n then Err fault.Short else
-    body_at (document_at 99) 0 n (drop 4 bytes)
+    body_at (document_at (most_levels - 1)) 0 n (drop 4 bytes)
 
 -- The fault of a reading.
 abbrev pub fault_of : {A : Type 0} → Result A BsonFault → Option BsonFault

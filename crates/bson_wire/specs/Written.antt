@@ -8,6 +8,7 @@ use Rattle.bson_doc.specs.declared.value.Value.{Value, Value-F, out-Value}
 use Rattle.bson_doc.specs.declared.value.Value.TheOpen as layer
 use Rattle.bson_wire.specs.declared.fault.EncodeFault.{EncodeFault}
 use Rattle.bson_wire.specs.declared.fault.EncodeFault.TheVariants as fault
+use Rattle.bson_wire.specs.Limits.{most_bytes}
 use Rattle.bson_wire.specs.Spelling.{IsName, IsPayload, SpellsWithin}
 use Rattle.bson_wire.specs.Spelled.{payload}
 
@@ -24,6 +25,7 @@ ElementSpells e = IsName e.0 × PayloadSpells e.1
 abbrev pub IsPlainLayer : Value-F Value Document → Type 0
 IsPlainLayer (layer.Doc d) = ⊥
 IsPlainLayer (layer.Array items) = ⊥
+IsPlainLayer (layer.Scope code scope) = ⊥
 IsPlainLayer _ = Unit {0}
 
 abbrev pub IsPlain : Value → Type 0
@@ -32,5 +34,5 @@ IsPlain v = IsPlainLayer (out-Value v)
 -- What stops a writer of so many bytes: that they are too many, or want of memory.
 abbrev pub Stops : ℕ → EncodeFault → Type 0
 Stops n fault.Deep = ⊥
-Stops n fault.Long = 48000000 < n
+Stops n fault.Long = most_bytes < n
 Stops n fault.Memory = Unit {0}

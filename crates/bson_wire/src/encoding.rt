@@ -1,4 +1,4 @@
-ghost use Rattle.std.specs.Prelude.{◌≡◌, ◌≤◌, ◌<◌, ℕ, List, ◌++◌, length, Ok, IfOk, OnOk, IfErr};
+ghost use Rattle.std.specs.Prelude.{◌≡◌, ◌≤◌, ◌<◌, ℕ, List, ◌++◌, length, Ok, Err, IfOk, OnOk, IfErr};
 ghost use Rattle.bson_doc.specs.Documents.{depth_of};
 ghost use Rattle.bson_wire.specs.Spelling.{Spells};
 ghost use Rattle.bson_wire.specs.Spelled.{spelled};
@@ -21,6 +21,8 @@ pub fn encode(alloc: Global, doc: &Document) -> Result<Bytes, EncodeFault>
     // Each fault comes exactly where the document has it, unless memory runs out.
     ensures fits { OnOk result ((depth_of doc.now ≤ 100) × (length (spelled doc.now) ≤ 48000000)) }
     ensures deep { IfErr result (λ e. e ≡ EncodeFault.Deep → 100 < depth_of doc.now) }
+    // A document with too many levels is refused whatever the memory.
+    ensures levels { 100 < depth_of doc.now → result ≡ Err EncodeFault.Deep }
     ensures long { IfErr result
         (λ e. e ≡ EncodeFault.Long → (depth_of doc.now ≤ 100) × (48000000 < length (spelled doc.now))) }
 {

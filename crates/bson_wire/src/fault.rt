@@ -9,8 +9,10 @@ pub enum BsonFault {
     /// Fewer than four bytes are there, or the total is in its range and exceeds the bytes.
     #[error("the bytes end before the document does")]
     Short,
-    /// What the length field at the place counts does not lie so: it passes the end of what encloses it, is below the
-    /// least that it can be, or does not end with its 00.
+    /// The length field at the place is below the least that it can be, what it counts passes the end of what encloses
+    /// it, or what it counts does not end there: a text or a document with another byte than 00, or a code with a scope
+    /// whose string and document do not fill it. Where an element without a length field of its own passes the end of
+    /// its document, it is the field of that document.
     #[error("the length at {at} does not fit")]
     Length { at: u32 },
     /// The type byte at the place has no kind.

@@ -2,7 +2,7 @@
 
 ghost use Rattle.std.specs.Prelude.{◌≡◌, ◌≤◌, ◌+◌, ◌-◌, ◌==◌, length, position, IfOk, IfErr};
 ghost use Rattle.bson_doc.specs.Names.{HasNoZero};
-ghost use Rattle.bson_wire.specs.Reading.{Gives, bytes_at, behind_zero, text_at, name_at, length_at, string_at};
+ghost use Rattle.bson_wire.specs.Reading.{Gives, bytes_at, byte_at, behind_zero, text_at, name_at, length_at, string_at};
 
 use crate::BsonFault;
 use bson_doc::{Name, Text};
@@ -29,6 +29,27 @@ pub fn bytes_of(at: u32, n: usize, bytes: &[u8]) -> Result<(&[u8], &[u8]), BsonF
         return Err(BsonFault::Length { at });
     }
     Ok(bytes.split_at(n))
+}
+
+/// Bytes as an array of as many.
+pub fn raw<const N: usize>(bytes: &[u8]) -> [u8; N]
+    requires { length bytes.now ≡ N }
+    ensures { result ≡ bytes.now }
+{
+    let mut raw = [0; N];
+    raw.copy_from_slice(bytes);
+    raw
+}
+
+/// A byte, and the bytes behind it.
+pub fn byte_of(at: u32, bytes: &[u8]) -> Result<(u8, &[u8]), BsonFault>
+    ensures gives { Gives (λ x. (x.0, x.1.now)) result (byte_at at bytes.now) }
+    ensures rest { IfOk result (λ x. length x.1.now ≤ length bytes.now) }
+{
+    match bytes {
+        [byte, rest @ ..] => Ok((*byte, rest)),
+        [] => Err(BsonFault::Length { at }),
+    }
 }
 
 /// What stands behind a 00 at the front.

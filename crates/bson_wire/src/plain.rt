@@ -1,71 +1,47 @@
-//! Values that hold no document.
+//! Values that hold no document, by their kind.
 
-ghost use Rattle.std.specs.Prelude.{◌≡◌, ◌≤◌, length, IfOk};
-ghost use Rattle.bson_wire.specs.Reading.{Gives, bool_at, plain_at};
+ghost use Rattle.std.specs.Prelude.{◌≤◌, length, IfOk};
+ghost use Rattle.bson_wire.specs.Reading.{Gives, plain_at};
 
 use crate::BsonFault;
+use crate::fixed::{bool_of, date_of, decimal_of, double_of, int32_of, int64_of, oid_of, stamp_of};
 use crate::kind::PlainKind;
-use crate::parts::{bytes_of, place, string_of};
+use crate::span::Span;
+use crate::varying::{binary_of, code_of, pointer_of, regex_of, str_of, symbol_of};
 use bson_doc::Value;
-use byteorder::{ByteOrder, LittleEndian};
 use std::alloc::Global;
-
-/// A truth value.
-#[tactic(auto, unfolding(crate::specs::Reading::bool_at))]
-fn bool_of(start: u32, end: usize, bytes: &[u8]) -> Result<(Value, &[u8]), BsonFault>
-    requires within { length bytes.now ≤ end }
-    requires small { end ≤ 48000000 }
-    ensures gives { Gives (λ x. (x.0, x.1.now)) result (bool_at start end bytes.now) }
-    ensures rest { IfOk result (λ x. length x.1.now ≤ length bytes.now) }
-{
-    match bytes {
-        [] => Err(BsonFault::Length { at: start }),
-        [0, rest @ ..] => Ok((Value::Bool(false), rest)),
-        [1, rest @ ..] => Ok((Value::Bool(true), rest)),
-        [byte, ..] => Err(BsonFault::Bool {
-            at: place(end, bytes),
-            byte: *byte,
-        }),
-    }
-}
-
-/// Eight bytes.
-fn eight(bytes: &[u8]) -> [u8; 8]
-    requires { length bytes.now ≡ 8 }
-    ensures { result ≡ bytes.now }
-{
-    let mut raw = [0; 8];
-    raw.copy_from_slice(bytes);
-    raw
-}
 
 /// A value of a kind that holds no document.
 #[tactic(auto, unfolding(crate::specs::Reading::plain_at))]
 pub fn plain_of(
     alloc: Global,
     kind: PlainKind,
-    start: u32,
-    end: usize,
+    span: Span,
     bytes: &[u8],
 ) -> Result<(Value, &[u8]), BsonFault>
-    requires within { length bytes.now ≤ end }
-    requires small { end ≤ 48000000 }
-    ensures gives { Gives (λ x. (x.0, x.1.now)) result (plain_at start end kind bytes.now) }
+    requires within { length bytes.now ≤ span.end }
+    requires small { span.end ≤ 48000000 }
+    ensures gives { Gives (λ x. (x.0, x.1.now)) result (plain_at span.start span.end kind bytes.now) }
     ensures rest { IfOk result (λ x. length x.1.now ≤ length bytes.now) }
 {
     match kind {
-        PlainKind::Double => {
-            let (raw, rest) = bytes_of(start, 8, bytes)?;
-            Ok((Value::Double(eight(raw)), rest))
-        }
-        PlainKind::Str => {
-            let (text, rest) = string_of(alloc, end, bytes)?;
-            Ok((Value::Str(text), rest))
-        }
-        PlainKind::Bool => bool_of(start, end, bytes),
-        PlainKind::Int32 => {
-            let (number, rest) = bytes_of(start, 4, bytes)?;
-            Ok((Value::Int32(LittleEndian::read_i32(number)), rest))
-        }
+        PlainKind::Double => double_of(span, bytes),
+        PlainKind::Str => str_of(alloc, span, bytes),
+        PlainKind::Binary => binary_of(alloc, span, bytes),
+        PlainKind::Undefined => Ok((Value::Undefined, bytes)),
+        PlainKind::Oid => oid_of(span, bytes),
+        PlainKind::Bool => bool_of(span, bytes),
+        PlainKind::Date => date_of(span, bytes),
+        PlainKind::Null => Ok((Value::Null, bytes)),
+        PlainKind::Regex => regex_of(alloc, span, bytes),
+        PlainKind::DbPointer => pointer_of(alloc, span, bytes),
+        PlainKind::Code => code_of(alloc, span, bytes),
+        PlainKind::Symbol => symbol_of(alloc, span, bytes),
+        PlainKind::Int32 => int32_of(span, bytes),
+        PlainKind::Stamp => stamp_of(span, bytes),
+        PlainKind::Int64 => int64_of(span, bytes),
+        PlainKind::Decimal => decimal_of(span, bytes),
+        PlainKind::Max => Ok((Value::Max, bytes)),
+        PlainKind::Min => Ok((Value::Min, bytes)),
     }
 }

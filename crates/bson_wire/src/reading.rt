@@ -1,38 +1,15 @@
-//! Documents and arrays, and the values, elements and bodies inside them. Each reader goes from the left to the right.
+//! Documents, arrays and code with a scope, and the values, elements and bodies inside them. Each reader goes from the left to the right.
 
 ghost use Rattle.std.specs.Prelude.{ℕ, ◌≡◌, ◌≤◌, ◌+◌, ◌-◌, ◌<◌, length, take, drop, IfOk};
-ghost use Rattle.bson_wire.specs.Reading.{Gives, unnamed_element, unnamed_elements, unnamed_document, kind_at, value_at, element_at, elements_at, body_at, document_at};
+ghost use Rattle.bson_wire.specs.Reading.{Gives, unnamed_element, unnamed_elements, unnamed_document, kind_at, value_at, scope_at, element_at, elements_at, body_at, document_at};
 
 use crate::BsonFault;
 use crate::kind::Kind;
-use crate::parts::{length_of, name_of, place, taken_name, zero_of};
+use crate::parts::{length_of, name_of, place, string_of, taken_name, zero_of};
 use crate::plain::plain_of;
-use bson_doc::{Document, Name, Rows, Value};
+use crate::span::Span;
+use bson_doc::{Document, Name, Rows, Text, Value};
 use std::alloc::Global;
-
-/// Where the elements of a document stand.
-#[derive(Clone, Copy)]
-pub struct Span {
-    /// The place of the document's length.
-    pub start: u32,
-    /// The place where the bytes of its elements end.
-    pub end: usize,
-}
-
-impl Span {
-    /// The elements of a document of that total, whose length stands at `start`. Its last byte is kept for its 00.
-    fn of(start: u32, total: usize) -> Span
-        requires least { 5 ≤ total }
-        requires small { start + total ≤ 48000000 }
-        ensures start { result.start ≡ start }
-        ensures end { result.end ≡ start + total - 1 }
-    {
-        Span {
-            start,
-            end: start as usize + total - 1,
-        }
-    }
-}
 
 /// The elements of a document of that total and the bytes from its last one on, of the bytes behind its length.
 fn split_body(total: usize, bytes: &[u8]) -> (&[u8], &[u8])
@@ -172,8 +149,38 @@ fn value_of(
             let (items, rest) = array_of(alloc, levels, span.end, bytes)?;
             Ok((Value::Array(items), rest))
         }
-        Kind::Plain(kind) => plain_of(alloc, kind, span.start, span.end, bytes),
+        Kind::Scope => {
+            let ((code, scope), rest) = scope_of(alloc, levels, span.end, bytes)?;
+            Ok((Value::Scope { code, scope }, rest))
+        }
+        Kind::Plain(kind) => plain_of(alloc, kind, span, bytes),
     }
+}
+
+/// Code with the values of its names: a string and a document, which end where the total says.
+#[cycle(reading)]
+#[tactic(auto, unfolding(crate::specs::Reading::scope_at, crate::specs::Reading::inside_scope_at))]
+fn scope_of(
+    alloc: Global,
+    levels: u32,
+    end: usize,
+    bytes: &[u8],
+) -> Result<((Text, Document), &[u8]), BsonFault>
+    requires within { length bytes.now ≤ end }
+    requires small { end ≤ 48000000 }
+    ensures gives { Gives (λ x. (x.0, x.1.now)) result (scope_at (document_at levels) end bytes.now) }
+    ensures rest { IfOk result (λ x. length x.1.now ≤ length bytes.now) }
+{
+    let at = place(end, bytes);
+    let (total, behind) = length_of(14, 4, end, bytes)?;
+    let (inside, rest) = behind.split_at(total - 4);
+    let inside_end = at as usize + total;
+    let (code, inside) = string_of(alloc, inside_end, inside)?;
+    let (scope, left) = document_of(alloc, levels, inside_end, inside)?;
+    if !left.is_empty() {
+        return Err(BsonFault::Length { at });
+    }
+    Ok(((code, scope), rest))
 }
 
 /// An array inside a document, where so many levels are left.

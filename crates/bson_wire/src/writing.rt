@@ -1,12 +1,13 @@
-//! Documents and arrays, and the elements and values inside them.
+//! Documents, arrays and code with a scope, and the elements and values inside them.
 
 ghost use Rattle.std.specs.Prelude.{◌≡◌, ◌≤◌, ◌+◌, ◌∷◌, [], ◌++◌, length, take, drop, vec_len, OnOk, IfErr};
 ghost use Rattle.std.specs.List.{AllByRecursion};
-ghost use Rattle.bson_wire.specs.Spelled.{element, payload, spelled, spelled_items};
+ghost use Rattle.bson_wire.specs.Spelled.{element, payload, scope, spelled, spelled_items, string};
 ghost use Rattle.bson_wire.specs.Written.{Stops, PayloadSpells, ElementSpells};
 
 use crate::EncodeFault;
-use crate::put::{end_document, kind_of, put_byte, put_bytes, put_plain};
+use crate::plain_put::{kind_of, put_plain};
+use crate::put::{end_document, put_byte, put_bytes, put_string, set_total};
 use bson_doc::{Document, Value};
 
 /// A document.
@@ -42,6 +43,21 @@ fn put_array(out: &mut Vec<u8>, items: &[Value]) -> Result<(), EncodeFault>
     end_document(out, start)
 }
 
+/// Code with the values of its names: a total, a string and a document.
+#[cycle(writing)]
+fn put_scope(out: &mut Vec<u8>, code: &str, document: &Document) -> Result<(), EncodeFault>
+    ensures ok { OnOk result (out.new.items ≡ out.old.items ++ scope (string code.now) (spelled document.now)) }
+    ensures size { OnOk result (length (scope (string code.now) (spelled document.now)) ≤ 48000000) }
+    ensures long { IfErr result (Stops (length (scope (string code.now) (spelled document.now)))) }
+    ensures known { OnOk result (AllByRecursion ElementSpells document.now.elements) }
+{
+    let start = out.len();
+    put_bytes(out, &[0; 4])?;
+    put_string(out, code)?;
+    put_document(out, document)?;
+    set_total(out, start)
+}
+
 /// An element.
 #[cycle(writing)]
 fn put_element(out: &mut Vec<u8>, name: &str, value: &Value) -> Result<(), EncodeFault>
@@ -65,6 +81,7 @@ fn put_value(out: &mut Vec<u8>, value: &Value) -> Result<(), EncodeFault>
     match value {
         Value::Doc(document) => put_document(out, document),
         Value::Array(items) => put_array(out, items.as_slice()),
+        Value::Scope { code, scope } => put_scope(out, code.as_str(), scope),
         plain => put_plain(out, plain),
     }
 }

@@ -10,7 +10,7 @@ use Rattle.bson_doc.specs.declared.value.Value.{Value, Value-F, Array, Doc, map-
 use Rattle.bson_doc.specs.declared.value.Value.TheVariants as value
 use Rattle.bson_doc.specs.declared.value.Value.TheVariants.{outs-Str, outs-Doc, outs-Bool, outs-Int32}
 use Rattle.bson_doc.proofs.Depths.{depth_of-elements, depth_inside-Array}
-use Rattle.bson_wire.specs.Spelled.{Payload, element, payload, spelled, spelled_elements, int32, document}
+use Rattle.bson_wire.specs.Spelled.{Payload, element, payload, spelled, spelled_elements, number32, document}
 use Rattle.bson_wire.proofs.Payloads.{payload-Str, payload-Doc, payload-Array, payload-Bool, payload-Int32}
 use Rattle.msg_wire.specs.Flags.{refused_bit}
 use Rattle.msg_wire.specs.Framing.{frame, framing, header}
@@ -57,8 +57,8 @@ depth_of-insert_command db coll id = rw (
   depth_of-write_concern,
 ) refl
 
-length-int32 : (n : ℕ) → length (int32 n) ≡ 4
-length-int32 n = refl
+length-number32 : (n : ℕ) → length (number32 n) ≡ 4
+length-number32 n = refl
 
 -- An element has its kind's byte, its name, 00 and its payload.
 size_of : List (Name × Value) → ℕ
@@ -77,17 +77,17 @@ length-spelled_elements (e ∷ es) =
 -- A document has four bytes ahead of its elements and one behind them.
 length-document : (body : List ℕ) → length (document body) ≡ length body + 5
 length-document body =
-    omega (arith, length-append (int32 (length body + 5)) (body ++ 0 ∷ []), length-append body (0 ∷ []), length-int32 (length body + 5))
+    omega (arith, length-append (number32 (length body + 5)) (body ++ 0 ∷ []), length-append body (0 ∷ []), length-number32 (length body + 5))
 
 length-spelled : (d : Document) → length (spelled d) ≡ size_of d.elements + 5
 length-spelled d = omega (arith, length-document (spelled_elements d.elements), length-spelled_elements d.elements)
 
 length-payload-Str : (text : List ℕ) → length (payload (value.Str text)).1 ≡ length text + 5
 length-payload-Str text = rw (payload-Str (value.Str text) text refl)
-    (omega (arith, length-append (int32 (length text + 1)) (text ++ 0 ∷ []), length-append text (0 ∷ []), length-int32 (length text + 1)))
+    (omega (arith, length-append (number32 (length text + 1)) (text ++ 0 ∷ []), length-append text (0 ∷ []), length-number32 (length text + 1)))
 
 length-payload-Int32 : (n : ℤ) → length (payload (value.Int32 n)).1 ≡ 4
-length-payload-Int32 n = rw (payload-Int32 (value.Int32 n) n refl) (length-int32 (cast_unsigned w32 n))
+length-payload-Int32 n = rw (payload-Int32 (value.Int32 n) n refl) (length-number32 (cast_unsigned w32 n))
 
 length-payload-true : length (payload (value.Bool true)).1 ≡ 1
 length-payload-true = rw (payload-Bool (value.Bool true) true refl) refl
@@ -124,7 +124,7 @@ length-spelled-insert_command db coll id =
 -- The header, flagBits and the section's kind.
 length-frame : (id to : ℤ) (flags : ℕ) (d : Document) → length (frame id to flags d) ≡ length (spelled d) + 21
 unfolding frame header framing
-length-frame id to flags d = length-append (header (length (spelled d) + 21) id to ++ int32 flags) (0 ∷ spelled d) ∙ omega arith
+length-frame id to flags d = length-append (header (length (spelled d) + 21) id to ++ number32 flags) (0 ∷ spelled d) ∙ omega arith
 
 pub length-insert_request : (db coll : List ℕ) (id : ℤ) → length (insert_request db coll id) ≡ length db + length coll + 145
 length-insert_request db coll id = omega (arith, length-frame REQUEST (pos 0) 0 (insert_command db coll id), length-spelled-insert_command db coll id)

@@ -17,6 +17,12 @@ abbrev pub number_in : Option Value → ℤ
 number_in (Some (value.Int32 n)) = n
 number_in _ = pos 0
 
+-- The count in an int32 or an int64, and 0 of anything else and of an absent field.
+abbrev pub count_in : Option Value → ℤ
+count_in (Some (value.Int32 n)) = n
+count_in (Some (value.Int64 n)) = n
+count_in _ = pos 0
+
 -- The command was carried out: its `ok` is one.
 abbrev pub IsOk : Document → Type 0
 IsOk reply = IsSomeAnd (field (codes "ok") reply) IsOne
@@ -32,7 +38,7 @@ has_unread reply = list_any (λ name. is_some (field name reply)) UNREAD
 
 -- What a reply says. An insert modifies nothing.
 abbrev pub Says : Document → FirstOutcome → Type 0
-Says reply (outcome.Ok n modified) = IsOk reply × (has_unread reply ≡ false) × (n ≡ number_in (field (codes "n") reply)) × (modified ≡ pos 0)
+Says reply (outcome.Ok n modified) = IsOk reply × (has_unread reply ≡ false) × (n ≡ count_in (field (codes "n") reply)) × (modified ≡ pos 0)
 Says reply (outcome.Error code) = ¬ IsOk reply × (code ≡ number_in (field (codes "code") reply))
 Says reply outcome.Unbuilt = IsOk reply × (has_unread reply ≡ true)
 Says reply outcome.Network = ⊥

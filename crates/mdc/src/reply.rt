@@ -1,5 +1,5 @@
 ghost use Rattle.std.specs.Prelude.{◌≡◌, IsTrue, ◌↔◌, is_some};
-ghost use Rattle.mdc.specs.Reply.{IsOk, Says, field, has_unread, number_in};
+ghost use Rattle.mdc.specs.Reply.{IsOk, Says, count_in, field, has_unread, number_in};
 
 use crate::outcome::FirstOutcome;
 use bson_doc::{Document, Value, is_one};
@@ -17,7 +17,7 @@ pub fn read_reply(reply: &Document) -> FirstOutcome
         return FirstOutcome::Unbuilt;
     }
     FirstOutcome::Ok {
-        n: i64::from(number(reply, "n")),
+        n: count(reply, "n"),
         modified: 0,
     }
 }
@@ -56,6 +56,17 @@ fn number(reply: &Document, name: &str) -> i32
 {
     match reply.get(name) {
         Some(Value::Int32(n)) => *n,
+        _ => 0,
+    }
+}
+
+/// The int32 or int64 of that name, 0 where there is none.
+fn count(reply: &Document, name: &str) -> i64
+    ensures { result ≡ count_in (field name.now reply.now) }
+{
+    match reply.get(name) {
+        Some(Value::Int32(n)) => i64::from(*n),
+        Some(Value::Int64(n)) => *n,
         _ => 0,
     }
 }

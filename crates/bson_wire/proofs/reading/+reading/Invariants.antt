@@ -5,31 +5,34 @@ use Rattle.bson_wire.proofs.Loop.{GoesOn}
 use Rattle.bson_wire.proofs.reading.+reading.Given as goal
 
 abbrev pub decreases-document_of : goal.decreases-document_of
-decreases-document_of l = 5 * l.levels
+decreases-document_of l = 6 * l.levels
 
 abbrev pub decreases-array_of : goal.decreases-array_of
-decreases-array_of l = 5 * l.levels
+decreases-array_of l = 6 * l.levels
+
+abbrev pub decreases-scope_of : goal.decreases-scope_of
+decreases-scope_of l = 6 * l.levels + 1
 
 abbrev pub decreases-value_of : goal.decreases-value_of
-decreases-value_of l = 5 * l.levels + 1
+decreases-value_of l = 6 * l.levels + 2
 
 abbrev pub decreases-element_of : goal.decreases-element_of
-decreases-element_of l = 5 * l.levels + 2
+decreases-element_of l = 6 * l.levels + 3
 
 abbrev pub decreases-item_of : goal.decreases-item_of
-decreases-item_of l = 5 * l.levels + 2
+decreases-item_of l = 6 * l.levels + 3
 
 abbrev pub decreases-elements_of : goal.decreases-elements_of
-decreases-elements_of l = 5 * l.levels + 3
+decreases-elements_of l = 6 * l.levels + 4
 
 abbrev pub decreases-items_of : goal.decreases-items_of
-decreases-items_of l = 5 * l.levels + 3
+decreases-items_of l = 6 * l.levels + 4
 
 abbrev pub decreases-body_of : goal.decreases-body_of
-decreases-body_of l = 5 * l.levels + 4
+decreases-body_of l = 6 * l.levels + 5
 
 abbrev pub decreases-array_body_of : goal.decreases-array_body_of
-decreases-array_body_of l = 5 * l.levels + 4
+decreases-array_body_of l = 6 * l.levels + 5
 
 abbrev pub invariant-elements_of-loop-rest : goal.invariant-elements_of-loop-rest
 invariant-elements_of-loop-rest l = record {

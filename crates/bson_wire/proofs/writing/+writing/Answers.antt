@@ -5,8 +5,8 @@ use Rattle.bson_doc.specs.declared.value.Value.TheVariants as value
 use Rattle.bson_wire.specs.Spelling.{IsName}
 use Rattle.bson_wire.specs.Spelled.{element, numbered, payload, spelled_elements}
 use Rattle.bson_wire.specs.Written.{ElementSpells, PayloadSpells}
-use Rattle.bson_wire.proofs.Payloads.{payload-Doc, payload-Array}
-use Rattle.bson_wire.proofs.Written.{OnOk-both, stops_more, doc_spells, array_spells, elements_left, items_left, writes_more, known_more, part-le}
+use Rattle.bson_wire.proofs.Payloads.{payload-Doc, payload-Array, payload-Scope}
+use Rattle.bson_wire.proofs.Written.{OnOk-both, stops_more, doc_spells, array_spells, scope_spells, elements_left, items_left, writes_more, known_more, part-le}
 use Rattle.bson_wire.proofs.writing.+writing.Goals as goal
 
 pub put_array-returns-in_err-put_element-clause-long : goal.put_array-returns-in_err-put_element-clause-long
@@ -79,3 +79,14 @@ pub put_value-returns-in-Array-clause-known : goal.put_value-returns-in-Array-cl
 put_value-returns-in-Array-clause-known t c =
     let is = c.in-Array.is ∙ ap value.Array (sym c.as_slice.ensures) in
     OnOk-both c.put_array.result (λ known small. array_spells c.args.value.now c.as_slice.result.now is known small) c.put_array.ensures.known c.put_array.ensures.size
+
+pub put_value-returns-in-Scope-clause-ok : goal.put_value-returns-in-Scope-clause-ok
+put_value-returns-in-Scope-clause-ok t c = rw (payload-Scope c.args.value.now _ _ c.in-Scope.is, ← c.as_str.ensures.value) c.put_scope.ensures.ok
+
+pub put_value-returns-in-Scope-clause-long : goal.put_value-returns-in-Scope-clause-long
+put_value-returns-in-Scope-clause-long t c = rw (payload-Scope c.args.value.now _ _ c.in-Scope.is, ← c.as_str.ensures.value) c.put_scope.ensures.long
+
+pub put_value-returns-in-Scope-clause-known : goal.put_value-returns-in-Scope-clause-known
+put_value-returns-in-Scope-clause-known t c =
+    let is = c.in-Scope.is ∙ ap (λ (code : List ℕ). value.Scope code c.in-Scope.scope) (sym c.as_str.ensures.value) in
+    OnOk-both c.put_scope.result (λ known small. scope_spells c.args.value.now c.as_str.result.now c.in-Scope.scope is c.as_str.ensures.utf8 known small) c.put_scope.ensures.known c.put_scope.ensures.size

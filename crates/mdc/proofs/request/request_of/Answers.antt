@@ -1,4 +1,4 @@
-use Rattle.std.proofs.Common.{◌≡◌, ◌∙◌, ◌+◌, ap, arith, length, pos}
+use Rattle.std.proofs.Common.{◌≡◌, ◌∙◌, ◌+◌, ap, arith, length, pos, refl}
 use Rattle.bson_doc.specs.Documents.{depth_of}
 use Rattle.msg_wire.specs.Framing.{frame}
 use Rattle.mdc.specs.Request.{REQUEST}
@@ -6,7 +6,7 @@ use Rattle.mdc.proofs.RequestLemmas.{refused_bit-0, depth_of-insert_command, len
 use Rattle.mdc.proofs.request.request_of.Goals as goal
 
 pub write-requires : goal.write-requires
-write-requires c = refused_bit-0
+write-requires c = record { known = refused_bit-0; no_checksum = refl }
 
 pub unreachable-requires : goal.unreachable-requires
 unreachable-requires c =

@@ -1,0 +1,58 @@
+use crate::{last_line, line};
+use std::test::Fail;
+use write_retry::Outcome;
+
+#[test]
+fn lines_of_outcomes(rt: HostRuntime) -> Result<(), Fail> {
+    let alloc = rt.alloc();
+    let rows = [
+        (
+            Outcome::Ok { n: 1, modified: 0 },
+            "1: ok n=1 modified=0 attempts=1\n",
+        ),
+        (
+            Outcome::Ok {
+                n: i64::MIN,
+                modified: i64::MAX,
+            },
+            "1: ok n=-9223372036854775808 modified=9223372036854775807 attempts=1\n",
+        ),
+        (Outcome::Error { code: -1 }, "1: error -1 attempts=1\n"),
+        (Outcome::Network, "1: network attempts=1\n"),
+        (Outcome::Late, "1: late attempts=1\n"),
+        (Outcome::BadReply { at: 8 }, "1: bad-reply 8 attempts=1\n"),
+        (Outcome::Unbuilt, "1: unbuilt attempts=1\n"),
+        (
+            Outcome::TooLarge {
+                size: 24_888_903,
+                most: 16_777_216,
+            },
+            "1: too-large 24888903 16777216 attempts=1\n",
+        ),
+    ];
+    for (outcome, wanted) in &rows {
+        assert_eq!(rt; line(alloc, 1, outcome, 1)?.as_str(), *wanted);
+    }
+    Ok(())
+}
+
+#[test]
+fn numbers_of_commands_and_attempts(rt: HostRuntime) -> Result<(), Fail> {
+    let alloc = rt.alloc();
+    let last = line(alloc, u32::MAX, &Outcome::Late, 0)?;
+    assert_eq!(rt; last.as_str(), "4294967295: late attempts=0\n");
+    let tried = line(alloc, 10, &Outcome::Network, 2)?;
+    assert_eq!(rt; tried.as_str(), "10: network attempts=2\n");
+    Ok(())
+}
+
+#[test]
+fn the_last_line_counts(rt: HostRuntime) -> Result<(), Fail> {
+    let alloc = rt.alloc();
+    assert_eq!(rt; last_line(alloc, 0, 0)?.as_str(), "done 0 ok 0\n");
+    assert_eq!(rt;
+        last_line(alloc, 100_000, 99_999)?.as_str(),
+        "done 100000 ok 99999\n"
+    );
+    Ok(())
+}

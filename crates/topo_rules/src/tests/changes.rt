@@ -1,5 +1,6 @@
 //! What an event changed, worked out by hand.
-use super::lines::{event, start, take, told};
+use super::lines::{start, step};
+use std::alloc::Global;
 use std::test::Fail;
 
 /// Lines and the change that each tells; a topology's beginning tells none.
@@ -58,18 +59,9 @@ static CHANGES: [(&str, &str); 27] = [
 #[test]
 fn are_told(rt: HostRuntime) -> Result<(), Fail> {
     let mut topology = start(rt.alloc(), "start")?;
-    for (line, expected) in CHANGES {
-        if line.starts_with("start") {
-            topology = start(rt.alloc(), line)?;
-            continue;
-        }
-        let event = event(rt.alloc(), line)?;
-        let change = take(rt.alloc(), &mut topology, &event)?;
-        assert!(rt; change.is_some(), "{line}: no such host");
-        if let Some(change) = &change {
-            let told = told(rt.alloc(), change)?;
-            assert_eq!(rt; told.as_str(), expected, "of {line}");
-        }
+    for (line, expected) in &CHANGES {
+        let told = step(rt.alloc(), &mut topology, line)?;
+        assert_eq!(rt; told.as_str(), *expected, "of {line}");
     }
     Ok(())
 }
@@ -87,27 +79,29 @@ static WORDS: [&str; 9] = [
     "Secondary",
 ];
 
+const PLAIN: &str = "reply a Other set=rs hosts=a,b e=1 v=1 wire=20 minutes=3";
+
+/// What the plain reply, the same again, the one with the word, and the plain one change, one after another.
+fn told_of(alloc: Global, word: &str) -> Result<String, Fail> {
+    let mut topology = start(alloc, "start a direct")?;
+    let other = format!(in alloc; "{PLAIN} {word}")?;
+    let first = step(alloc, &mut topology, PLAIN)?;
+    let same = step(alloc, &mut topology, PLAIN)?;
+    let changed = step(alloc, &mut topology, other.as_str())?;
+    let back = step(alloc, &mut topology, PLAIN)?;
+    let told = format!(in alloc; "{first}; {same}; {changed}; {back}")?;
+    Ok(told)
+}
+
 #[test]
 fn differ_by_each_field(rt: HostRuntime) -> Result<(), Fail> {
-    let plain = "reply a Other set=rs hosts=a,b e=1 v=1 wire=20 minutes=3";
-    for word in WORDS {
-        let mut topology = start(rt.alloc(), "start a direct")?;
-        let first = event(rt.alloc(), plain)?;
-        let line = format!(in rt.alloc(); "{plain} {word}")?;
-        let second = event(rt.alloc(), line.as_str())?;
-        for (taken, expected) in [
-            (&first, "ready=a clear=- true"),
-            (&first, "ready=a clear=- false"),
-            (&second, "ready=a clear=- true"),
-            (&first, "ready=a clear=- true"),
-        ] {
-            let change = take(rt.alloc(), &mut topology, taken)?;
-            assert!(rt; change.is_some());
-            if let Some(change) = &change {
-                let told = told(rt.alloc(), change)?;
-                assert_eq!(rt; told.as_str(), expected, "at {word}");
-            }
-        }
+    for word in &WORDS {
+        let told = told_of(rt.alloc(), word)?;
+        assert_eq!(rt;
+            told.as_str(),
+            "ready=a clear=- true; ready=a clear=- false; ready=a clear=- true; ready=a clear=- true",
+            "at {word}"
+        );
     }
     Ok(())
 }

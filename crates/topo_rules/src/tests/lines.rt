@@ -161,6 +161,20 @@ pub fn take(
     Ok(Some(change))
 }
 
+/// Begins the topology of a `start` line, or takes in the event of another one, and tells what it changed: nothing of a
+/// start, and `no such host` where the event's host is not in the topology.
+pub fn step(alloc: Global, topology: &mut Topology, line: &str) -> Result<String, Fail> {
+    if line.starts_with("start") {
+        *topology = start(alloc, line)?;
+        return Ok(String::new(alloc));
+    }
+    let event = event(alloc, line)?;
+    match take(alloc, topology, &event)? {
+        Some(change) => told(alloc, &change),
+        None => Ok(String::from_str(alloc, "no such host")?),
+    }
+}
+
 fn kind_of(topology: &Topology) -> &'static str {
     match topology.kind() {
         TopoKind::Single => "Single",

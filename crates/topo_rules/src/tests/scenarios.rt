@@ -1,6 +1,6 @@
 //! Scenarios in the shape of the standard's own tests: what is heard of servers, one after another, and the topology
 //! behind each. Expected lines are worked out by hand from SDAM, Updating the TopologyDescription.
-use super::lines::{event, shown, start, take};
+use super::lines::{shown, start, step};
 use std::alloc::Global;
 use std::process::Abort;
 use std::test::Fail;
@@ -539,13 +539,8 @@ static PRIMARIES: [(&str, &str); 46] = [
 fn run(rt: &impl Abort, alloc: Global, rows: &[(&str, &str)]) -> Result<(), Fail> {
     let mut topology = start(alloc, "start")?;
     for (line, expected) in rows {
-        if line.starts_with("start") {
-            topology = start(alloc, line)?;
-        } else {
-            let event = event(alloc, line)?;
-            let change = take(alloc, &mut topology, &event)?;
-            assert!(rt; change.is_some(), "{line}: no such host");
-        }
+        let told = step(alloc, &mut topology, line)?;
+        assert!(rt; told.as_str() != "no such host", "{line}");
         let shown = shown(alloc, &topology)?;
         assert_eq!(rt; shown.as_str(), *expected, "behind {line}");
     }

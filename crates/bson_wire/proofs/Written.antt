@@ -1,9 +1,8 @@
 -- What is written of a value spells it, and how much it is.
-use Rattle.std.proofs.Common.{◌≡◌, ℕ, zero, suc, ◌+◌, ◌-◌, ◌^◌, ◌%◌, ◌<◌, ◌≤◌, max, Bool, true, false, List, [], ◌∷◌, ◌++◌, length, take, drop, get_or, map, decimal, Result, Ok, Err, refl, sym, ap, subst, ◌∙◌, append_assoc, add-one, arith, inl, inr}
+use Rattle.std.proofs.Common.{◌≡◌, ℕ, zero, suc, ◌+◌, ◌^◌, ◌%◌, ◌<◌, ◌≤◌, max, List, [], ◌∷◌, ◌++◌, length, drop, get_or, map, decimal, Result, Ok, Err, refl, sym, ap, subst, ◌∙◌, append_assoc, add-one, arith, inl, inr}
 use Rattle.std.specs.Prelude.{IsUtf8, OnOk}
 use Rattle.std.specs.List.{AllByRecursion}
-use Rattle.std.specs.Int.{from_bool}
-use Rattle.std.proofs.lemmas.List.{length-append, length-drop, take-append-le, drop-append-le, drop_more, get_or_append_left, get_or_push, length_push}
+use Rattle.std.proofs.lemmas.List.{length-append, drop_more, get_or_append_left, get_or_push, length_push}
 use Rattle.std.proofs.lemmas.Bool.{ne_eqb, cases_lt}
 use Rattle.std.proofs.lemmas.Str.{IsUtf8-from_ascii}
 use Rattle.std.proofs.lemmas.Fmt.{IsAscii-decimal, decimal_by_steps}
@@ -15,7 +14,7 @@ use Rattle.bson_doc.specs.declared.value.Value.TheVariants as value
 use Rattle.bson_doc.specs.declared.value.Value.TheVariants.{outs-Doc, outs-Array, outs-Scope}
 use Rattle.bson_wire.specs.declared.fault.EncodeFault.{EncodeFault}
 use Rattle.bson_wire.specs.declared.fault.EncodeFault.TheVariants as fault
-use Rattle.bson_wire.specs.Spelling.{IsNumber32, IsName, IsArray, IsElement, AreElements, SpellsWithin, Spells, values, truth_byte}
+use Rattle.bson_wire.specs.Spelling.{IsNumber32, IsName, IsArray, IsElement, AreElements, SpellsWithin, Spells, values}
 use Rattle.bson_wire.specs.Spelled.{number32, string, scope, document, element, numbered, payload, spelled_elements, spelled, spelled_items}
 use Rattle.bson_wire.specs.Written.{PayloadSpells, ElementSpells, Stops}
 use Rattle.bson_wire.proofs.Texts.{HasNoZero-from}
@@ -30,16 +29,6 @@ pub stops_more : (m n : ℕ) (e : EncodeFault) → m ≤ n → Stops m e → Sto
 stops_more m n fault.Deep le h = h
 stops_more m n fault.Long le h = omega arith
 stops_more m n fault.Memory le h = tt
-
--- ---- the end of a document
-
-pub ended_document : (old : List ℕ) (start total : ℕ) → start + 4 ≤ length old → total ≡ length old + 1 - start
-    → (take start (old ++ 0 ∷ []) ++ number32 total) ++ drop (start + 4) (old ++ 0 ∷ []) ≡ take start old ++ document (drop (start + 4) old)
-ended_document old start total le e =
-    let front : take start (old ++ 0 ∷ []) ≡ take start old = take-append-le start old (0 ∷ []) (omega arith) in
-    let back : drop (start + 4) (old ++ 0 ∷ []) ≡ drop (start + 4) old ++ 0 ∷ [] = drop-append-le (start + 4) old (0 ∷ []) le in
-    let count : total ≡ length (drop (start + 4) old) + 5 = omega (arith, length-drop (start + 4) old) in
-    rw (front, back, count) (append_assoc (take start old) (number32 (length (drop (start + 4) old) + 5)) (drop (start + 4) old ++ 0 ∷ []))
 
 -- ---- documents and arrays
 
@@ -210,10 +199,6 @@ known_more P xs i x lt is p others = rw (next_item xs i x lt is) (p, others)
 pub part-le : (old out text left after body : List ℕ) → length old + 4 ≤ length out → left ≡ text ++ after → out ++ left ≡ (old ++ 0 ∷ 0 ∷ 0 ∷ 0 ∷ []) ++ body → length text ≤ length (document body)
 part-le old out text left after body le k h =
     omega (arith, ap length h, ap length k, length-append text after, length-append out left, length-append old (0 ∷ 0 ∷ 0 ∷ 0 ∷ []), length-append (old ++ 0 ∷ 0 ∷ 0 ∷ 0 ∷ []) body, length-document body)
-
-pub truth_is : (b : Bool) → from_bool b ≡ truth_byte b
-truth_is true = refl
-truth_is false = refl
 
 -- ---- the outermost document
 

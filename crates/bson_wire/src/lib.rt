@@ -7,11 +7,15 @@
 //! are the contracts of [`one_document`], [`no_prefix`], [`flawless`], [`read_again`], [`spelled_spells`]
 //! and [`no_look_ahead`].
 //!
-//! This product's own limits: a document has at most 100 levels and 48,000,000 bytes. A double is kept as its eight
-//! bytes. The names of an array's elements may be any names, and are not kept.
+//! All kinds of the standard are read and written, those too that it calls deprecated: the type bytes 01 to 13, 7f and
+//! ff. A double is kept as its eight bytes and a decimal number as its sixteen; a binary of any subtype is kept as it
+//! is. The names of an array's elements may be any names, and are not kept.
 //!
-//! The kinds are those of `bson_doc`. A further kind is one more case of `Kind` and of the definitions and functions
-//! that go by kinds, and changes nothing else.
+//! This product's own limits: a document has at most 100 levels and 48,000,000 bytes.
+//!
+//! Documents, arrays and code with a scope are read by `reading` and written by `writing`, each a cycle of calls; the
+//! kinds that hold no document stand apart from them, read by `plain` (with `fixed` and `varying`) and written by
+//! `plain_put`.
 #![tactic(auto)]
 
 mod decoding;

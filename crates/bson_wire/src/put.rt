@@ -1,4 +1,4 @@
-//! The parts that values are written by: bytes, numbers, texts, and the ends of documents and scopes.
+//! The parts that values are written by: bytes, numbers, texts, totals, and the end of a document.
 
 ghost use Rattle.std.specs.Prelude.{◌≡◌, ◌≤◌, ◌+◌, ◌∷◌, [], ◌++◌, length, take, drop, vec_len, OnOk, IfErr};
 ghost use Rattle.bson_wire.specs.Spelled.{number32, string, document, counted};
@@ -60,25 +60,8 @@ pub fn put_string(out: &mut Vec<u8>, text: &str) -> Result<(), EncodeFault>
     put_byte(out, 0)
 }
 
-/// The end of a document that began at `start`, where four bytes were left for its total.
-pub fn end_document(out: &mut Vec<u8>, start: usize) -> Result<(), EncodeFault>
-    requires { start + 4 ≤ vec_len out.old }
-    ensures ok { OnOk result
-        (out.new.items ≡ take start out.old.items ++ document (drop (start + 4) out.old.items)) }
-    ensures size { OnOk result (length (document (drop (start + 4) out.old.items)) ≤ 48000000) }
-    ensures long { IfErr result (Stops (length (document (drop (start + 4) out.old.items)))) }
-{
-    put_byte(out, 0)?;
-    let total = out.len() - start;
-    if total > MOST_BYTES {
-        return Err(EncodeFault::Long);
-    }
-    set_number(out, start, total as u32);
-    Ok(())
-}
-
-/// The end of code with a scope that began at `start`, where four bytes were left for its total.
-pub fn end_scope(out: &mut Vec<u8>, start: usize) -> Result<(), EncodeFault>
+/// The total of what began at `start`, where four bytes were left for it; it counts itself.
+pub fn set_total(out: &mut Vec<u8>, start: usize) -> Result<(), EncodeFault>
     requires { start + 4 ≤ vec_len out.old }
     ensures ok { OnOk result
         (out.new.items ≡ take start out.old.items ++ counted (drop (start + 4) out.old.items)) }
@@ -91,4 +74,16 @@ pub fn end_scope(out: &mut Vec<u8>, start: usize) -> Result<(), EncodeFault>
     }
     set_number(out, start, total as u32);
     Ok(())
+}
+
+/// The end of a document that began at `start`, where four bytes were left for its total.
+pub fn end_document(out: &mut Vec<u8>, start: usize) -> Result<(), EncodeFault>
+    requires { start + 4 ≤ vec_len out.old }
+    ensures ok { OnOk result
+        (out.new.items ≡ take start out.old.items ++ document (drop (start + 4) out.old.items)) }
+    ensures size { OnOk result (length (document (drop (start + 4) out.old.items)) ≤ 48000000) }
+    ensures long { IfErr result (Stops (length (document (drop (start + 4) out.old.items)))) }
+{
+    put_byte(out, 0)?;
+    set_total(out, start)
 }

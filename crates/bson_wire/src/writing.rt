@@ -7,7 +7,7 @@ ghost use Rattle.bson_wire.specs.Written.{Stops, PayloadSpells, ElementSpells};
 
 use crate::EncodeFault;
 use crate::plain_put::{kind_of, put_plain};
-use crate::put::{end_document, end_scope, put_byte, put_bytes, put_string};
+use crate::put::{end_document, put_byte, put_bytes, put_string, set_total};
 use bson_doc::{Document, Value};
 
 /// A document.
@@ -55,7 +55,7 @@ fn put_scope(out: &mut Vec<u8>, code: &str, document: &Document) -> Result<(), E
     put_bytes(out, &[0; 4])?;
     put_string(out, code)?;
     put_document(out, document)?;
-    end_scope(out, start)
+    set_total(out, start)
 }
 
 /// An element.

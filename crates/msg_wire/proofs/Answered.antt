@@ -2,10 +2,12 @@
 use Rattle.std.proofs.Common.{◌≡◌, ◌≢◌, ◌≤◌, ℕ, List, ◌++◌, length, take, Some, None, Result, Ok, Err, IfOk, IfErr, OnOk, MatchResult, refl, ap, ◌∙◌}
 use Rattle.msg_wire.specs.Asking.{IsWhole}
 use Rattle.msg_wire.specs.Framing.{Framed}
-use Rattle.msg_wire.specs.Reading.{Fails, Gives, read, flaw, fault_of}
+use Rattle.msg_wire.specs.Reading.{read, flaw}
+use Rattle.msg_wire.specs.Steps.{Fails, Gives, fault_of}
 use Rattle.msg_wire.specs.declared.fault.MsgFault.{MsgFault}
 use Rattle.msg_wire.specs.declared.fault.MsgFault.TheVariants as fault
 use Rattle.msg_wire.specs.declared.message.Message.{Message}
+use Rattle.msg_wire.proofs.Asked as asked
 use Rattle.msg_wire.proofs.Whole as whole
 
 abbrev Answer : Type 0
@@ -50,5 +52,5 @@ flawed bytes (Ok m) h = tt
 flawed bytes (Err e) h = λ other. ap fault_of (Fails-cases e (read bytes) h other)
 
 pub all_of_it : (bytes : List ℕ) (a : Answer) → Gives (λ m. m) a (read bytes) → IsWhole bytes → MatchResult a (λ m. Framed bytes m) (λ e. (n : ℕ) → e ≢ fault.Short n)
-all_of_it bytes (Ok m) h whole_bytes = whole_bytes.all m.length m (whole.read_takes bytes m h).1
-all_of_it bytes (Err e) h whole_bytes = λ n short. whole_bytes.not_short n (flawed bytes (Err e) h (λ memory. cc) ∙ ap Some short)
+all_of_it bytes (Ok m) h is_whole = asked.all_of_it bytes is_whole m.length m (whole.read_takes bytes m h).1
+all_of_it bytes (Err e) h is_whole = λ n short. asked.not_short bytes is_whole n (flawed bytes (Err e) h (λ memory. cc) ∙ ap Some short)

@@ -4,50 +4,31 @@ use Rattle.std.proofs.lemmas.Bool.{cases_lt}
 use Rattle.std.proofs.lemmas.Bool.Decides.{nat_tests}
 use Rattle.std.proofs.lemmas.List.{take_all, take-append-le, length-take-le}
 use Rattle.std.specs.Int.{w32, cast_signed}
-use Rattle.bson_doc.specs.declared.value.Document.{Document}
-use Rattle.bson_wire.specs.Reading as documents
 use Rattle.msg_wire.specs.Asking.{AsksFor, IsWhole}
-use Rattle.msg_wire.specs.Flags.{refused_bit}
+use Rattle.msg_wire.specs.Flags.{refused_bit, checksum_size}
 use Rattle.msg_wire.specs.Framing.{Framed}
-use Rattle.msg_wire.specs.Reading.{number_at, is_length, need_of, checked_header, header_at, checked_flags, document_at, sections_at, message_at, read, flaw, fault_of}
+use Rattle.msg_wire.specs.Fields.{number_at}
+use Rattle.msg_wire.specs.Reading.{is_length, need_of, checked_header, header_at, checked_flags, message_at, read, flaw}
+use Rattle.msg_wire.specs.Steps.{fault_of}
 use Rattle.msg_wire.specs.declared.fault.MsgFault.{MsgFault}
 use Rattle.msg_wire.specs.declared.fault.MsgFault.TheVariants as fault
 use Rattle.msg_wire.specs.declared.message.Message.{Message}
 use Rattle.msg_wire.proofs.ByPlaces.{FramedByPlaces-from_Framed}
+use Rattle.msg_wire.specs.Sections.{sections_at}
+use Rattle.msg_wire.proofs.Behind.{IsBehind, IsBehind-sections_at}
 use Rattle.msg_wire.proofs.Headers.{InOrder, InOrder-from_tests, header_at-whole}
 use Rattle.msg_wire.proofs.Places.{number_at-append, number_at-take}
 use Rattle.msg_wire.proofs.Steps.{IfErr-bind, err_ok, err_same, err_from_fault}
-
--- A fault of what stands behind the header.
-abbrev pub IsBehind : MsgFault → Type 0
-IsBehind (fault.Short need) = ⊥
-IsBehind (fault.Length got) = ⊥
-IsBehind (fault.Opcode got) = ⊥
-IsBehind _ = Unit {0}
 
 IsBehind-checked_flags : (flags : ℕ) (refused : Option ℕ) → IfErr (checked_flags flags refused) IsBehind
 IsBehind-checked_flags flags None = tt
 IsBehind-checked_flags flags (Some bit) = tt
 
-IsBehind-document_at : (place : ℕ) (read : documents.Read Document) → IfErr (document_at place read) IsBehind
-IsBehind-document_at place (Ok x) = tt
-IsBehind-document_at place (Err e) = tt
-
-IsBehind-last : (b : Bool) (d : Document) (at : ℕ) → IfErr (cond b (Ok d) (Err (fault.Sections at))) IsBehind
-IsBehind-last true d at = tt
-IsBehind-last false d at = tt
-
-IsBehind-sections_at : (end : ℕ) (bytes : List ℕ) → IfErr (sections_at end bytes) IsBehind
-unfolding sections_at
-IsBehind-sections_at end [] = tt
-IsBehind-sections_at end (suc kind ∷ rest) = tt
-IsBehind-sections_at end (zero ∷ rest) = IfErr-bind IsBehind (document_at _ (documents.read rest)) _ (IsBehind-document_at _ (documents.read rest)) (λ x. IsBehind-last _ x.0 _)
-
 IsBehind-message_at : (bytes : List ℕ) → IfErr (message_at bytes) IsBehind
 unfolding message_at
 IsBehind-message_at bytes =
     IfErr-bind IsBehind (checked_flags (number_at 16 bytes) (refused_bit (number_at 16 bytes))) _ (IsBehind-checked_flags (number_at 16 bytes) (refused_bit (number_at 16 bytes)))
-    (λ flags. IfErr-bind IsBehind (sections_at (length bytes) (drop 20 bytes)) _ (IsBehind-sections_at (length bytes) (drop 20 bytes)) (λ body. tt))
+    (λ flags. IfErr-bind IsBehind (sections_at (length bytes) (checksum_size flags) (length bytes) None (drop 20 bytes)) _ (IsBehind-sections_at (length bytes) (checksum_size flags) (length bytes) None (drop 20 bytes)) (λ held. tt))
 
 -- A fault of the header's own numbers.
 abbrev pub IsRefusal : MsgFault → Type 0
@@ -212,15 +193,34 @@ take-framed bytes k message m total =
       | inr more ↦ take_all k bytes more
     ]
 
+picked : (few fits : Bool) (total n : ℕ) → cond few None (cond fits (Some total) None) ≡ Some n → (fits ≡ true) × (total ≡ n)
+picked true fits total n h = absurd cc
+picked false false total n h = absurd cc
+picked false true total n h = (refl, cc)
+
+-- What a header's messageLength is, where it is in its range.
+need_of-Some : (bytes : List ℕ) (n : ℕ) → need_of bytes ≡ Some n → (number_at 0 bytes ≡ n) × (26 ≤ n)
+need_of-Some bytes n h =
+    let p = picked (ltb (length bytes) 4) (is_length (number_at 0 bytes)) (number_at 0 bytes) n h in
+    (p.1, grind (arith, nat_tests, p.0, p.1))
+
+-- Where the bytes are as many as their header says, a message at their front is all of them.
+pub all_of_it : (bytes : List ℕ) → IsWhole bytes → (k : ℕ) (message : Message) → Framed (take k bytes) message → Framed bytes message
+all_of_it bytes h k message m =
+    let total = (need_of-Some bytes (length bytes) h).0 in
+    subst (λ (whole : List ℕ). Framed whole message) (take-framed bytes k message m total) m
+
+-- No more are asked for.
+pub not_short : (bytes : List ℕ) → IsWhole bytes → (n : ℕ) → flaw bytes ≢ Some (fault.Short n)
+not_short bytes h n e =
+    let size = need_of-Some bytes (length bytes) h in
+    let w = Waits-from_flaw bytes n (omega (arith, size.1)) e in
+    omega (arith, w.total, w.fewer, size.0)
+
 pub enough : (bytes more : List ℕ) (n : ℕ) → 16 ≤ length bytes → flaw bytes ≡ Some (fault.Short n) → length (bytes ++ more) ≡ n → IsWhole (bytes ++ more)
 enough bytes more n there h whole =
     let w = Waits-from_flaw bytes n there h in
-    let first = header_first bytes more n in
-    let total : number_at 0 (bytes ++ more) ≡ length (bytes ++ more) = number_at-append 0 bytes more (omega arith) ∙ w.total ∙ sym whole in
     let there' : 16 ≤ length (bytes ++ more) = omega (arith, length-append bytes more) in
-    record {
-      all = λ k message m. subst (λ (whole : List ℕ). Framed whole message) (take-framed (bytes ++ more) k message m total) m;
-      not_short = λ k e. let later = Waits-from_flaw (bytes ++ more) k there' e in omega (arith, later.total, later.fewer, total);
-      not_length = λ got. (first got there h).0;
-      not_opcode = λ got. (first got there h).1;
-    }
+    let order = in_order-append bytes more there w.order in
+    let total : number_at 0 (bytes ++ more) ≡ length (bytes ++ more) = number_at-append 0 bytes more (omega arith) ∙ w.total ∙ sym whole in
+    need_of-in_order (bytes ++ more) there' order ∙ ap Some total

@@ -8,7 +8,8 @@ use Rattle.bson_wire.specs.Spelling.{Spells}
 use Rattle.bson_wire.specs.Reading.{flaw}
 use Rattle.bson_wire.specs.Reading as documents
 use Rattle.bson_wire.proofs.Outermost.{read_again}
-use Rattle.msg_wire.specs.Reading.{Fails, body_fault, document_at}
+use Rattle.msg_wire.specs.Sections.{body_fault, document_at}
+use Rattle.msg_wire.specs.Steps.{Fails}
 use Rattle.msg_wire.specs.declared.fault.MsgFault.TheVariants as fault
 
 -- A front that spells a document is what reading takes.

@@ -4,13 +4,12 @@ use Rattle.std.specs.Int.{w32, cast_signed}
 use Rattle.std.proofs.lemmas.List.{append_assoc, drop_at, drop-drop, length-drop, length-take-le, take-append-drop}
 use Rattle.byteorder.specs.Endian.{little_number}
 use Rattle.byteorder.specs.Numbers.{little_from-append}
-use Rattle.bson_doc.specs.declared.value.Document.{Document}
-use Rattle.bson_wire.specs.Spelling.{IsDocument, Spells, SpellsWithin}
-use Rattle.msg_wire.specs.Flags.{refused_bit}
-use Rattle.msg_wire.specs.Framing.{IsBody, Framed}
-use Rattle.msg_wire.specs.Reading.{number_at, signed_at}
+use Rattle.msg_wire.specs.Fields.{number_at, signed_at}
+use Rattle.msg_wire.specs.Flags.{refused_bit, checksum_size}
+use Rattle.msg_wire.specs.Framing.{AreSections, Framed}
 use Rattle.msg_wire.specs.declared.message.Message.{Message}
-use Rattle.msg_wire.proofs.Places.{number_at-field}
+use Rattle.msg_wire.proofs.Places.{field_at, number_at-field, number-field_at, size-field_at}
+use Rattle.msg_wire.proofs.Sizes.{length-AreSections}
 
 -- The bytes frame the message, by places.
 pub record FramedByPlaces (bytes : List ℕ) (message : Message) : Type 0 where
@@ -22,18 +21,12 @@ pub record FramedByPlaces (bytes : List ℕ) (message : Message) : Type 0 where
   pub code : number_at 12 bytes ≡ 2013
   pub flags : number_at 16 bytes ≡ message.flags
   pub known : refused_bit message.flags ≡ None
-  pub body : IsBody (drop 20 bytes) message.body
+  pub sections : List ℕ
+  pub checksum : List ℕ
+  pub behind : drop 20 bytes ≡ sections ++ checksum
+  pub are_sections : AreSections sections message.body message.sequences
+  pub is_checksum : length checksum ≡ checksum_size message.flags
   pub counted : message.length ≡ length bytes
-
-length-IsDocument : (Inner : List ℕ → Document → Type 0) (bytes : List ℕ) (document : Document) → IsDocument Inner bytes document → 5 ≤ length bytes
-length-IsDocument Inner bytes document d =
-    let whole = ap length d.parts ∙ length-append d.number (d.body ++ 0 ∷ []) in
-    omega (arith, d.counts.size, length-append d.body (0 ∷ []))
-
--- A document has at least five bytes.
-pub length-Spells : (bytes : List ℕ) (document : Document) → Spells bytes document → 5 ≤ length bytes
-unfolding SpellsWithin
-length-Spells bytes document s = length-IsDocument (SpellsWithin 99) bytes document s.within
 
 -- Five parts, the first four of which have four bytes, and the place of each.
 parts_at : (bytes t i o c f rest : List ℕ) → bytes ≡ (t ++ (i ++ (o ++ c))) ++ (f ++ rest)
@@ -62,11 +55,11 @@ parts_at bytes t i o c f rest whole lt li lo lc lf =
 pub FramedByPlaces-from_Framed : (bytes : List ℕ) (message : Message) → Framed bytes message → FramedByPlaces bytes message
 FramedByPlaces-from_Framed bytes message m =
     let h = m.is_header in
-    let whole : bytes ≡ (h.total_field ++ (h.id_field ++ (h.to_field ++ h.code_field))) ++ (m.flags ++ m.sections) = m.parts ∙ ap (λ x. x ++ (m.flags ++ m.sections)) h.parts in
-    let at = parts_at bytes h.total_field h.id_field h.to_field h.code_field m.flags m.sections whole h.is_total.size h.is_id.size h.is_to.size h.is_code.size m.is_flags.size in
-    let sized = ap length at.5 ∙ ap length m.is_body.parts in
+    let whole : bytes ≡ (h.total_field ++ (h.id_field ++ (h.to_field ++ h.code_field))) ++ (m.flags ++ (m.sections ++ m.checksum)) = m.parts ∙ ap (λ x. x ++ (m.flags ++ (m.sections ++ m.checksum))) h.parts in
+    let at = parts_at bytes h.total_field h.id_field h.to_field h.code_field m.flags (m.sections ++ m.checksum) whole h.is_total.size h.is_id.size h.is_to.size h.is_code.size m.is_flags.size in
+    let sized = ap length at.5 ∙ length-append m.sections m.checksum in
     record {
-      least = omega (arith, length-drop 20 bytes, sized, length-Spells m.is_body.spelling message.body m.is_body.spells);
+      least = omega (arith, length-drop 20 bytes, sized, length-AreSections m.sections message.body message.sequences m.are_sections);
       size = m.size;
       total = at.0 ∙ h.is_total.reads;
       id = ap (cast_signed w32) at.1 ∙ h.is_id.reads;
@@ -74,22 +67,13 @@ FramedByPlaces-from_Framed bytes message m =
       code = at.3 ∙ h.is_code.reads;
       flags = at.4 ∙ m.is_flags.reads;
       known = m.known;
-      body = subst (λ x. IsBody x message.body) (sym at.5) m.is_body;
+      sections = m.sections;
+      checksum = m.checksum;
+      behind = at.5;
+      are_sections = m.are_sections;
+      is_checksum = m.is_checksum;
       counted = m.counted;
     }
-
--- Four bytes that begin at a place.
-abbrev field_at : ℕ → List ℕ → List ℕ
-field_at place bytes = take 4 (drop place bytes)
-
-size-field_at : (place : ℕ) (bytes : List ℕ) → place + 4 ≤ length bytes → length (field_at place bytes) ≡ 4
-size-field_at place bytes there = length-take-le 4 (drop place bytes) (omega (arith, length-drop place bytes))
-
-number-field_at : (place : ℕ) (bytes : List ℕ) → place + 4 ≤ length bytes → little_number 4 (field_at place bytes) ≡ number_at place bytes
-unfolding number_at
-number-field_at place bytes there =
-    sym (little_from-append 4 (field_at place bytes) (drop 4 (drop place bytes)) (omega (arith, size-field_at place bytes there)))
-    ∙ ap (little_number 4) (take-append-drop 4 (drop place bytes))
 
 field_behind : (place : ℕ) (bytes : List ℕ) → field_at place bytes ++ drop (place + 4) bytes ≡ drop place bytes
 field_behind place bytes = ap (λ x. field_at place bytes ++ x) (sym (drop-drop 4 place bytes)) ∙ take-append-drop 4 (drop place bytes)
@@ -103,12 +87,14 @@ Framed-from_places bytes message p =
     let e = field_behind 16 bytes in
     let parts : bytes ≡ (field_at 0 bytes ++ (field_at 4 bytes ++ (field_at 8 bytes ++ field_at 12 bytes))) ++ (field_at 16 bytes ++ drop 20 bytes) =
     sym (simp (append_assoc, e, d, c, b, a)) in
+    let fields : List ℕ = field_at 0 bytes ++ (field_at 4 bytes ++ (field_at 8 bytes ++ field_at 12 bytes)) in
     let least = p.least in
     record {
       header = field_at 0 bytes ++ (field_at 4 bytes ++ (field_at 8 bytes ++ field_at 12 bytes));
       flags = field_at 16 bytes;
-      sections = drop 20 bytes;
-      parts = parts;
+      sections = p.sections;
+      checksum = p.checksum;
+      parts = parts ∙ ap (λ (xs : List ℕ). fields ++ (field_at 16 bytes ++ xs)) p.behind;
       is_header = record {
         total_field = field_at 0 bytes;
         id_field = field_at 4 bytes;
@@ -122,7 +108,8 @@ Framed-from_places bytes message p =
       };
       is_flags = record { size = size-field_at 16 bytes (omega arith); reads = number-field_at 16 bytes (omega arith) ∙ p.flags };
       known = p.known;
-      is_body = p.body;
+      are_sections = p.are_sections;
+      is_checksum = p.is_checksum;
       counted = p.counted;
       size = p.size;
     }

@@ -1,5 +1,5 @@
 -- The bytes of a message that fits are framed.
-use Rattle.std.proofs.Common.{◌≡◌, ◌≤◌, ◌<◌, ◌^◌, ℕ, ℤ, ◌+◌, List, [], ◌∷◌, ◌++◌, length, None, FitsSigned, refl, sym, ap, ◌∙◌, subst, arith, length-append}
+use Rattle.std.proofs.Common.{◌≡◌, ◌≤◌, ◌<◌, ◌^◌, ℕ, ℤ, ◌+◌, false, List, [], ◌∷◌, ◌++◌, length, None, FitsSigned, refl, sym, ap, ◌∙◌, subst, arith, length-append}
 use Rattle.std.specs.Int.{w32, cast_signed, cast_unsigned}
 use Rattle.std.proofs.Math.Facts.{Fits-of_z}
 use Rattle.std.proofs.lemmas.Int.{to_z-of_z}
@@ -7,38 +7,38 @@ use Rattle.std.proofs.lemmas.List.{append_assoc, append-nil}
 use Rattle.byteorder.specs.Endian.{little_number}
 use Rattle.byteorder.specs.Numbers.{length-bytes_low_first, little_number-reads_back}
 use Rattle.bson_doc.specs.declared.value.Document.{Document}
-use Rattle.bson_wire.specs.Spelling.{IsInt32, Spells}
-use Rattle.bson_wire.specs.Spelled.{int32, spelled}
-use Rattle.msg_wire.specs.Flags.{refused_bit}
+use Rattle.bson_wire.specs.Spelling.{IsNumber32, Spells}
+use Rattle.bson_wire.specs.Spelled.{number32, spelled}
+use Rattle.msg_wire.specs.Flags.{refused_bit, checksum_size, is_set}
 use Rattle.msg_wire.specs.Framing.{IsSigned, IsHeader, Framed, header, framing, frame, message_of}
 
-size-int32 : (n : ℕ) → length (int32 n) ≡ 4
-size-int32 n = length-bytes_low_first 0 4 n
+size-number32 : (n : ℕ) → length (number32 n) ≡ 4
+size-number32 n = length-bytes_low_first 0 4 n
 
-number-int32 : (n : ℕ) → n < 2 ^ 32 → little_number 4 (int32 n) ≡ n
-number-int32 n h = ap (little_number 4) (sym (append-nil (int32 n))) ∙ little_number-reads_back 4 n [] h
+little_number-number32 : (n : ℕ) → n < 2 ^ 32 → little_number 4 (number32 n) ≡ n
+little_number-number32 n h = ap (little_number 4) (sym (append-nil (number32 n))) ∙ little_number-reads_back 4 n [] h
 
-IsInt32-int32 : (n : ℕ) → n < 2 ^ 32 → IsInt32 (int32 n) n
-IsInt32-int32 n h = record { size = size-int32 n; reads = number-int32 n h }
+IsNumber32-number32 : (n : ℕ) → n < 2 ^ 32 → IsNumber32 (number32 n) n
+IsNumber32-number32 n h = record { size = size-number32 n; reads = little_number-number32 n h }
 
-IsSigned-int32 : (z : ℤ) → FitsSigned w32 z → IsSigned (int32 (cast_unsigned w32 z)) z
-IsSigned-int32 z h = record {
-  size = size-int32 (cast_unsigned w32 z);
-  reads = ap (cast_signed w32) (number-int32 (cast_unsigned w32 z) (Fits-of_z h).fits) ∙ to_z-of_z w32 z h;
+IsSigned-number32 : (z : ℤ) → FitsSigned w32 z → IsSigned (number32 (cast_unsigned w32 z)) z
+IsSigned-number32 z h = record {
+  size = size-number32 (cast_unsigned w32 z);
+  reads = ap (cast_signed w32) (little_number-number32 (cast_unsigned w32 z) (Fits-of_z h).fits) ∙ to_z-of_z w32 z h;
 }
 
 IsHeader-header : (total : ℕ) (id to : ℤ) → total < 2 ^ 32 → FitsSigned w32 id → FitsSigned w32 to → IsHeader (header total id to) total id to
 unfolding header
 IsHeader-header total id to t i o = record {
-  total_field = int32 total;
-  id_field = int32 (cast_unsigned w32 id);
-  to_field = int32 (cast_unsigned w32 to);
-  code_field = int32 2013;
+  total_field = number32 total;
+  id_field = number32 (cast_unsigned w32 id);
+  to_field = number32 (cast_unsigned w32 to);
+  code_field = number32 2013;
   parts = simp append_assoc;
-  is_total = IsInt32-int32 total t;
-  is_id = IsSigned-int32 id i;
-  is_to = IsSigned-int32 to o;
-  is_code = IsInt32-int32 2013 (omega arith);
+  is_total = IsNumber32-number32 total t;
+  is_id = IsSigned-number32 id i;
+  is_to = IsSigned-number32 to o;
+  is_code = IsNumber32-number32 2013 (omega arith);
 }
 
 length-header : (total : ℕ) (id to : ℤ) → length (header total id to) ≡ 16
@@ -49,35 +49,52 @@ pub length-framing : (id to : ℤ) (flags : ℕ) (spelling : List ℕ) → lengt
 unfolding framing
 length-framing id to flags spelling =
     let a = length-header (length spelling + 21) id to in
-    let b = length-append (header (length spelling + 21) id to) (int32 flags) in
-    let c = length-append (header (length spelling + 21) id to ++ int32 flags) (0 ∷ spelling) in
-    omega (arith, a, b, c, size-int32 flags)
+    let b = length-append (header (length spelling + 21) id to) (number32 flags) in
+    let c = length-append (header (length spelling + 21) id to ++ number32 flags) (0 ∷ spelling) in
+    omega (arith, a, b, c, size-number32 flags)
+
+checksum_size-none : (flags : ℕ) → is_set flags 0 ≡ false → checksum_size flags ≡ 0
+unfolding checksum_size
+checksum_size-none flags none = rw none refl
 
 -- The bytes with any spelling of the document are framed.
-pub Framed-framing : (id to : ℤ) (flags : ℕ) (spelling : List ℕ) (body : Document) → FitsSigned w32 id → FitsSigned w32 to → flags < 2 ^ 32 → refused_bit flags ≡ None
+pub Framed-framing : (id to : ℤ) (flags : ℕ) (spelling : List ℕ) (body : Document) → FitsSigned w32 id → FitsSigned w32 to → flags < 2 ^ 32 → refused_bit flags ≡ None → is_set flags 0 ≡ false
     → Spells spelling body → length (framing id to flags spelling) ≤ 48000000
-    → Framed (framing id to flags spelling) (record { id = id; to = to; flags = flags; body = body; length = length (framing id to flags spelling) })
+    → Framed (framing id to flags spelling) (record { id = id; to = to; flags = flags; body = body; sequences = []; length = length (framing id to flags spelling) })
 unfolding framing
-Framed-framing id to flags spelling body i o f known spells size =
+Framed-framing id to flags spelling body i o f known none spells size =
     let total = length-framing id to flags spelling in
     let front = IsHeader-header (length spelling + 21) id to (omega arith) i o in
     record {
       header = header (length spelling + 21) id to;
-      flags = int32 flags;
+      flags = number32 flags;
       sections = 0 ∷ spelling;
-      parts = append_assoc (header (length spelling + 21) id to) (int32 flags) (0 ∷ spelling);
+      checksum = [];
+      parts = append_assoc (header (length spelling + 21) id to) (number32 flags) (0 ∷ spelling) ∙ ap (λ (xs : List ℕ). header (length spelling + 21) id to ++ (number32 flags ++ xs)) (sym (append-nil (0 ∷ spelling)));
       is_header = subst (λ (n : ℕ). IsHeader (header (length spelling + 21) id to) n id to) (sym total) front;
-      is_flags = IsInt32-int32 flags f;
+      is_flags = IsNumber32-number32 flags f;
       known = known;
-      is_body = record { spelling = spelling; parts = refl; spells = spells };
+      are_sections = record {
+        front = [];
+        section = 0 ∷ spelling;
+        behind = [];
+        earlier = [];
+        later = [];
+        parts = sym (append-nil (0 ∷ spelling));
+        are_earlier = refl;
+        is_body = record { spelling = spelling; parts = refl; spells = spells };
+        are_later = refl;
+        in_order = refl;
+      };
+      is_checksum = sym (checksum_size-none flags none);
       counted = refl;
       size = size;
     }
 
-pub Framed-frame : (id to : ℤ) (flags : ℕ) (body : Document) → FitsSigned w32 id → FitsSigned w32 to → flags < 2 ^ 32 → refused_bit flags ≡ None
+pub Framed-frame : (id to : ℤ) (flags : ℕ) (body : Document) → FitsSigned w32 id → FitsSigned w32 to → flags < 2 ^ 32 → refused_bit flags ≡ None → is_set flags 0 ≡ false
     → Spells (spelled body) body → length (frame id to flags body) ≤ 48000000 → Framed (frame id to flags body) (message_of id to flags body)
 unfolding frame
-Framed-frame id to flags body i o f known spells size = Framed-framing id to flags (spelled body) body i o f known spells size
+Framed-frame id to flags body i o f known none spells size = Framed-framing id to flags (spelled body) body i o f known none spells size
 
 pub length-frame : (id to : ℤ) (flags : ℕ) (body : Document) → length (frame id to flags body) ≡ length (spelled body) + 21
 unfolding frame

@@ -2,7 +2,8 @@
 use Rattle.std.proofs.Common.{◌≡◌, ◌≤◌, ℕ, false, cond, not, eqb, ltb, List, length, Ok, Err, refl, arith}
 use Rattle.std.proofs.lemmas.Bool.Decides.{nat_tests}
 use Rattle.msg_wire.specs.declared.fault.MsgFault.TheVariants as fault
-use Rattle.msg_wire.specs.Reading.{is_length, number_at, checked_header, header_at}
+use Rattle.msg_wire.specs.Fields.{number_at}
+use Rattle.msg_wire.specs.Reading.{is_length, checked_header, header_at}
 use Rattle.msg_wire.proofs.Steps.{guard_ok}
 
 -- A header that is in order: its messageLength is in its range and its opCode is that of OP_MSG.

@@ -3,7 +3,7 @@ use Rattle.std.proofs.Common.{◌≡◌, ◌≤◌, ℕ, ◌+◌, List, ◌++◌
 use Rattle.std.proofs.lemmas.List.{drop_at, drop-append-le, length-drop, length-take-le, take-append-drop}
 use Rattle.byteorder.specs.Endian.{little_number}
 use Rattle.byteorder.specs.Numbers.{little_from-append}
-use Rattle.msg_wire.specs.Reading.{number_at}
+use Rattle.msg_wire.specs.Fields.{number_at}
 
 pub number_at-field : (front field rest : List ℕ) (place : ℕ) → length front ≡ place → length field ≡ 4 → number_at place (front ++ (field ++ rest)) ≡ little_number 4 field
 unfolding number_at
@@ -20,3 +20,16 @@ pub number_at-take : (place n : ℕ) (bytes : List ℕ) → place + 4 ≤ n → 
 number_at-take place n bytes fits there =
     sym (number_at-append place (take n bytes) (drop n bytes) (omega (arith, length-take-le n bytes there)))
     ∙ ap (number_at place) (take-append-drop n bytes)
+
+-- Four bytes that begin at a place.
+abbrev pub field_at : ℕ → List ℕ → List ℕ
+field_at place bytes = take 4 (drop place bytes)
+
+pub size-field_at : (place : ℕ) (bytes : List ℕ) → place + 4 ≤ length bytes → length (field_at place bytes) ≡ 4
+size-field_at place bytes there = length-take-le 4 (drop place bytes) (omega (arith, length-drop place bytes))
+
+pub number-field_at : (place : ℕ) (bytes : List ℕ) → place + 4 ≤ length bytes → little_number 4 (field_at place bytes) ≡ number_at place bytes
+unfolding number_at
+number-field_at place bytes there =
+    sym (little_from-append 4 (field_at place bytes) (drop 4 (drop place bytes)) (omega (arith, size-field_at place bytes there)))
+    ∙ ap (little_number 4) (take-append-drop 4 (drop place bytes))

@@ -1,17 +1,20 @@
 -- Reading gives a message exactly where the bytes begin with its frame.
-use Rattle.std.proofs.Common.{◌≡◌, ◌≤◌, ℕ, false, ltb, List, [], ◌++◌, length, take, drop, Some, None, Option, Result, Ok, Err, refl, sym, ap, ◌∙◌, subst, arith, length-append}
-use Rattle.std.proofs.lemmas.List.{append-nil, take_at, take-append-drop, length-take-le, nil_from_length}
+use Rattle.std.proofs.Common.{◌≡◌, ◌≤◌, ◌<◌, ℕ, false, ltb, List, [], ◌++◌, length, take, drop, Some, None, Option, Result, Ok, Err, refl, sym, ap, ◌∙◌, subst, arith, length-append}
+use Rattle.std.proofs.lemmas.List.{append-nil, take_at, take-append-drop, length-drop, length-take-le, nil_from_length}
 use Rattle.std.proofs.lemmas.Bool.Decides.{nat_tests}
-use Rattle.msg_wire.specs.Flags.{refused_bit}
+use Rattle.msg_wire.specs.Fields.{number_at, signed_at}
+use Rattle.msg_wire.specs.Flags.{refused_bit, checksum_size}
 use Rattle.msg_wire.specs.Framing.{Framed}
-use Rattle.msg_wire.specs.Reading.{number_at, signed_at, checked_flags, sections_at, header_at, message_at, read, flaw, fault_of}
+use Rattle.msg_wire.specs.Reading.{checked_flags, header_at, message_at, read, flaw}
+use Rattle.msg_wire.specs.Sections.{sections_at}
+use Rattle.msg_wire.specs.Steps.{fault_of}
 use Rattle.msg_wire.specs.declared.fault.MsgFault.{MsgFault}
 use Rattle.msg_wire.specs.declared.message.Message.{Message}
 use Rattle.msg_wire.proofs.ByPlaces.{FramedByPlaces, FramedByPlaces-from_Framed, Framed-from_places}
 use Rattle.msg_wire.proofs.Headers.{InOrder, header_at-ok, header_at-whole}
 use Rattle.msg_wire.proofs.Messages.{message_at-parts}
 use Rattle.msg_wire.proofs.Places.{number_at-append, number_at-take}
-use Rattle.msg_wire.proofs.Sections.{IsBody-from_sections_at, sections_at-IsBody}
+use Rattle.msg_wire.proofs.SectionLaws.{sections_take, sections_again}
 use Rattle.msg_wire.proofs.Steps.{bind_ok}
 
 checked_flags-ok : (flags : ℕ) (refused : Option ℕ) (n : ℕ) → checked_flags flags refused ≡ Ok n → (refused ≡ None) × (flags ≡ n)
@@ -24,9 +27,10 @@ message_at-ok : (bytes : List ℕ) (message : Message) → 26 ≤ length bytes �
 unfolding message_at
 message_at-ok bytes message least size total code h =
     let a = bind_ok (checked_flags (number_at 16 bytes) (refused_bit (number_at 16 bytes))) _ message h in
-    let b = bind_ok (sections_at (length bytes) (drop 20 bytes)) _ message a.2 in
+    let b = bind_ok (sections_at (length bytes) (checksum_size a.0) (length bytes) None (drop 20 bytes)) _ message a.2 in
+    let t = sections_take (length bytes) (checksum_size a.0) (length bytes) (drop 20 bytes) b.0 b.1 in
     let flags = checked_flags-ok (number_at 16 bytes) (refused_bit (number_at 16 bytes)) a.0 a.1 in
-    let read : FramedByPlaces bytes (record { id = signed_at 4 bytes; to = signed_at 8 bytes; flags = a.0; body = b.0; length = length bytes }) = record {
+    let read : FramedByPlaces bytes (record { id = signed_at 4 bytes; to = signed_at 8 bytes; flags = a.0; body = b.0.0; sequences = b.0.1; length = length bytes }) = record {
       least = least;
       size = size;
       total = total;
@@ -35,10 +39,14 @@ message_at-ok bytes message least size total code h =
       code = code;
       flags = flags.1;
       known = ap refused_bit (sym flags.1) ∙ flags.0;
-      body = IsBody-from_sections_at (length bytes) (drop 20 bytes) b.0 b.1;
+      sections = t.text;
+      checksum = t.left;
+      behind = t.parts;
+      are_sections = t.are;
+      is_checksum = t.size;
       counted = refl;
     } in
-    let same : record { id = signed_at 4 bytes; to = signed_at 8 bytes; flags = a.0; body = b.0; length = length bytes } ≡ message = cc (b.2) in
+    let same : record { id = signed_at 4 bytes; to = signed_at 8 bytes; flags = a.0; body = b.0.0; sequences = b.0.1; length = length bytes } ≡ message = cc (b.2) in
     subst (λ (m : Message). FramedByPlaces bytes m) same read
 
 -- What is read is framed so.
@@ -60,7 +68,11 @@ message_at-framed : (bytes : List ℕ) (message : Message) → FramedByPlaces by
 message_at-framed bytes message p =
     let known : refused_bit (number_at 16 bytes) ≡ None = ap refused_bit p.flags ∙ p.known in
     let flags : checked_flags (number_at 16 bytes) (refused_bit (number_at 16 bytes)) ≡ Ok message.flags = rw (known, p.flags) refl in
-    let whole = message_at-parts bytes message.flags message.body flags (sections_at-IsBody (length bytes) (drop 20 bytes) message.body p.body) in
+    let least = p.least in
+    let few : length (p.sections ++ p.checksum) < length bytes = omega (arith, ap length p.behind, length-drop 20 bytes) in
+    let held = ap (sections_at (length bytes) (checksum_size message.flags) (length bytes) None) p.behind
+    ∙ sections_again (length bytes) (checksum_size message.flags) (length bytes) p.sections p.checksum message.body message.sequences few p.is_checksum p.are_sections in
+    let whole = message_at-parts bytes message.flags (message.body, message.sequences) flags held in
     whole ∙ rw (p.id, p.to, sym p.counted) refl
 
 -- What is framed so is read again, whatever follows.

@@ -1,4 +1,7 @@
+ghost use Rattle.std.specs.Prelude.{◌≡◌};
+
 use bson_wire::BsonFault;
+use std::alloc::AllocError;
 use thiserror::Error;
 
 /// Why some bytes do not begin with a message: the first fault that is met. Places count from the front of the bytes.
@@ -16,8 +19,10 @@ pub enum MsgFault {
     /// The flag bit is set, is the lowest such, and a message that has it is refused.
     #[error("the flag bit {bit} is not known")]
     Flags { bit: u32 },
-    /// A section of another kind than 0 or a second one begins at the place, or the message ends there without one.
-    #[error("the sections are not one of kind 0, at {at}")]
+    /// The sections are out of order at the place: the first byte of a section of another kind than 0 and 1, of a second
+    /// one of kind 0, or of one of kind 1 whose size or name does not fit; where the sections end without one of kind 0;
+    /// or the message's end, where fewer than four bytes are left for the checksum.
+    #[error("the sections are out of order at {at}")]
     Sections { at: u32 },
     /// The document at the place does not read. The place in its fault counts from the document's front, and the fault
     /// is never `Memory`.
@@ -26,4 +31,14 @@ pub enum MsgFault {
     /// There is not enough memory.
     #[error("out of memory")]
     Memory,
+}
+
+impl From<AllocError> for MsgFault {
+    ghost use Rattle.msg_wire.specs.declared.fault.MsgFault.TheVariants.{Memory};
+
+    ghost from_gives = { λ _ e. e ≡ Memory };
+
+    fn from(_e: AllocError) -> MsgFault {
+        MsgFault::Memory
+    }
 }

@@ -1,12 +1,12 @@
 //! Laws of framed messages, each the contract of a function that does nothing.
 
-ghost use Rattle.std.specs.Prelude.{◌≡◌, ◌≢◌, ◌↔◌, ◌<◌, ◌≤◌, ◌^◌, ℕ, ℤ, List, [], ◌++◌, length, take, Some, None, Ok, FitsSigned};
+ghost use Rattle.std.specs.Prelude.{◌≡◌, ◌≢◌, ◌↔◌, ◌<◌, ◌≤◌, ◌^◌, ℕ, ℤ, List, [], ◌++◌, length, take, false, Some, None, Ok, FitsSigned};
 ghost use Rattle.std.specs.Int.{w32};
 ghost use Rattle.bson_doc.specs.declared.value.Document.{Document};
 ghost use Rattle.bson_wire.specs.Spelling.{Spells};
 ghost use Rattle.bson_wire.specs.Spelled.{spelled};
 ghost use Rattle.msg_wire.specs.Asking.{AsksFor, IsWhole};
-ghost use Rattle.msg_wire.specs.Flags.{refused_bit};
+ghost use Rattle.msg_wire.specs.Flags.{refused_bit, is_set};
 ghost use Rattle.msg_wire.specs.Framing.{Framed, frame, message_of};
 ghost use Rattle.msg_wire.specs.Reading.{read, flaw};
 ghost use Rattle.msg_wire.specs.declared.message.Message.{Message};
@@ -45,7 +45,7 @@ pub fn read_again()
 pub fn frames()
     ensures { (id to : ℤ) (flags : ℕ) (body : Document)
         → FitsSigned w32 id → FitsSigned w32 to → flags < 2 ^ 32 → refused_bit flags ≡ None
-        → Spells (spelled body) body → length (frame id to flags body) ≤ 48000000
+        → is_set flags 0 ≡ false → Spells (spelled body) body → length (frame id to flags body) ≤ 48000000
         → Framed (frame id to flags body) (message_of id to flags body) }
 {}
 
@@ -69,7 +69,7 @@ pub fn header_first()
         × (flaw (bytes ++ more) ≢ Some (MsgFault.Opcode got)) }
 {}
 
-/// As many bytes as the header asked for are enough, and a message at their front is all of them.
+/// As many bytes as the header asked for are as many as it says that the message has ([`all_of_it`]).
 pub fn enough()
     ensures { (bytes more : List ℕ) (n : ℕ)
         → 16 ≤ length bytes → flaw bytes ≡ Some (MsgFault.Short n) → length (bytes ++ more) ≡ n
@@ -80,4 +80,11 @@ pub fn enough()
 pub fn still_short()
     ensures { (bytes more : List ℕ) (n : ℕ) → flaw bytes ≡ Some (MsgFault.Short n) → length (bytes ++ more) < n
         → flaw (bytes ++ more) ≡ Some (MsgFault.Short n) }
+{}
+
+/// Where the bytes are as many as their header says, a message at their front is all of them, and no more are asked for.
+pub fn all_of_it()
+    ensures all { (bytes : List ℕ) (n : ℕ) (message : Message)
+        → IsWhole bytes → Framed (take n bytes) message → Framed bytes message }
+    ensures settled { (bytes : List ℕ) (n : ℕ) → IsWhole bytes → flaw bytes ≢ Some (MsgFault.Short n) }
 {}

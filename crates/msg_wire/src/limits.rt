@@ -25,3 +25,15 @@ pub const MOST_BYTES: u32 = 48_000_000;
 
 /// The opCode of OP_MSG.
 pub const OP_MSG: u32 = 2013;
+
+/// The bit of flagBits that says that a checksum ends the message (checksumPresent).
+pub const CHECKSUM_PRESENT: u32 = 0;
+
+/// How many bytes a checksum has.
+pub const CHECKSUM: usize = 4;
+
+/// How many bytes the size of a section of kind 1 has.
+pub const SIZE: usize = 4;
+
+/// The least size of a section of kind 1: itself, and the 00 of an empty name.
+pub const LEAST_SIZE: usize = 5;

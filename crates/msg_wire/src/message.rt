@@ -1,6 +1,7 @@
-use bson_doc::Document;
+use crate::Sequence;
+use bson_doc::{Document, Rows};
 
-/// A message (MongoDB wire protocol, OP_MSG) with one section of kind 0.
+/// A message (MongoDB wire protocol, OP_MSG).
 #[derive(Debug, Drop)]
 pub struct Message {
     /// requestID: the number that the sender gave it.
@@ -11,6 +12,8 @@ pub struct Message {
     pub flags: u32,
     /// The document of its section of kind 0.
     pub body: Document,
-    /// messageLength: how many bytes it has.
+    /// Its sections of kind 1, in order.
+    pub sequences: Rows<Sequence>,
+    /// messageLength: how many bytes it has, those of a checksum too.
     pub length: u32,
 }

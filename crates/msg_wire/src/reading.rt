@@ -3,19 +3,19 @@ ghost use Rattle.msg_wire.specs.declared.message.Message.{Message};
 ghost use Rattle.msg_wire.specs.declared.fault.MsgFault.{MsgFault};
 ghost use Rattle.msg_wire.specs.Asking.{IsWhole};
 ghost use Rattle.msg_wire.specs.Framing.{Framed};
-ghost use Rattle.msg_wire.specs.Reading.{Gives, header_at, checked_flags, document_at, body_fault, sections_at, message_at, number_at, need_of, flaw};
+ghost use Rattle.msg_wire.specs.Reading.{header_at, checked_flags, message_at, need_of, flaw};
 ghost use Rattle.msg_wire.specs.Reading as spec;
+ghost use Rattle.msg_wire.specs.Steps.{Gives};
 ghost use Rattle.msg_wire.specs.Flags.{refused_bit};
-ghost use Rattle.bson_wire.specs.Reading as documents;
 
 use crate::fields::{number, signed};
-use crate::flags::refused_bit_of;
+use crate::flags::{checksum_size_of, refused_bit_of};
 use crate::limits::{
     FLAG_BITS, HEADER, LEAST_BYTES, MOST_BYTES, OP_CODE, OP_MSG, REQUEST_ID, RESPONSE_TO, SECTIONS,
 };
+use crate::sections::sections_of;
 use crate::{Message, MsgFault};
-use bson_doc::Document;
-use bson_wire::{BsonFault, decode};
+use bson_wire::BsonFault;
 use std::alloc::Global;
 
 /// The messageLength at the front of the bytes, where four bytes are there and it is from 26 to 48,000,000.
@@ -104,12 +104,18 @@ fn message_of(alloc: Global, bytes: &[u8]) -> Result<Message, MsgFault>
 {
     let flags = flags_of(number(bytes, FLAG_BITS))?;
     let length = bytes.len() as u32;
-    let body = body_of(alloc, length, &bytes[SECTIONS..])?;
+    let (body, sequences) = sections_of(
+        alloc,
+        checksum_size_of(flags),
+        length,
+        &bytes[SECTIONS..],
+    )?;
     Ok(Message {
         id: signed(bytes, REQUEST_ID),
         to: signed(bytes, RESPONSE_TO),
         flags,
         body,
+        sequences,
         length,
     })
 }
@@ -120,47 +126,5 @@ fn flags_of(flags: u32) -> Result<u32, MsgFault>
     match refused_bit_of(flags) {
         Some(bit) => Err(MsgFault::Flags { bit }),
         None => Ok(flags),
-    }
-}
-
-/// The document of the only section, in bytes that end at the place `end` of the message.
-#[tactic(auto, unfolding(crate::specs::Reading::sections_at))]
-fn body_of(alloc: Global, end: u32, bytes: &[u8]) -> Result<Document, MsgFault>
-    requires { length bytes.now ≤ end }
-    ensures { Gives (λ d. d) result (sections_at end bytes.now) }
-{
-    let [kind, rest @ ..] = bytes else {
-        return Err(MsgFault::Sections { at: end });
-    };
-    if *kind != 0 {
-        return Err(MsgFault::Sections {
-            at: end - bytes.len() as u32,
-        });
-    }
-    let (body, behind) = document_of(alloc, end - rest.len() as u32, rest)?;
-    if !behind.is_empty() {
-        return Err(MsgFault::Sections {
-            at: end - behind.len() as u32,
-        });
-    }
-    Ok(body)
-}
-
-fn document_of(alloc: Global, place: u32, bytes: &[u8]) -> Result<(Document, &[u8]), MsgFault>
-    ensures gives { Gives (λ x. (x.0, x.1.now)) result (document_at place (documents.read bytes.now)) }
-    ensures rest { IfOk result (λ x. length x.1.now ≤ length bytes.now) }
-{
-    match decode(alloc, bytes) {
-        Ok((document, n)) => Ok((document, &bytes[n..])),
-        Err(fault) => Err(body_fault_of(place, fault)),
-    }
-}
-
-fn body_fault_of(place: u32, fault: BsonFault) -> MsgFault
-    ensures { result ≡ body_fault place fault }
-{
-    match fault {
-        BsonFault::Memory => MsgFault::Memory,
-        _ => MsgFault::Body { at: place, fault },
     }
 }

@@ -2,7 +2,7 @@
 
 use crate::{MsgFault, need, read, write};
 use bson_doc::{Document, Name, Rows, Text, Value};
-use bson_wire::BsonFault;
+use bson_wire::{BsonFault, EncodeFault};
 use std::alloc::{AllocError, Global};
 use std::test::Fail;
 
@@ -157,12 +157,12 @@ fn asks_for_what_is_not_there(rt: HostRuntime) -> Result<(), Fail> {
 }
 
 /// The fault of the bytes.
-fn fault(alloc: Global, bytes: &[u8]) -> Option<MsgFault> {
+pub fn fault(alloc: Global, bytes: &[u8]) -> Option<MsgFault> {
     read(alloc, bytes).err()
 }
 
 /// The bytes of a message with the id 7 to the id 1.
-fn message(
+pub fn message(
     alloc: Global,
     total: u32,
     code: u32,
@@ -234,16 +234,16 @@ fn judges_flags(rt: HostRuntime) -> Result<(), Fail> {
     let alloc = rt.alloc();
     for bit in 0..32 {
         let bytes = message(alloc, 26, 2013, 1 << bit, &[0, 5, 0, 0, 0, 0])?;
-        let refused = bit == 0 || (2..=15).contains(&bit);
-        let wanted = if refused {
-            Some(MsgFault::Flags { bit })
-        } else {
-            None
+        let wanted = match bit {
+            // The checksum is not there.
+            0 => Some(MsgFault::Sections { at: 26 }),
+            2..=15 => Some(MsgFault::Flags { bit }),
+            _ => None,
         };
         assert_eq!(rt; fault(alloc, &bytes), wanted, "of bit {bit}");
     }
     let cases = [
-        (0xffff_ffff, Some(0)),
+        (0xffff_ffff, Some(2)),
         (0xffff_fffe, Some(2)),
         (0x0001_8002, Some(15)),
         (0x0000_6000, Some(13)),
@@ -257,9 +257,9 @@ fn judges_flags(rt: HostRuntime) -> Result<(), Fail> {
             "of {flags}"
         );
         // The flags come before the sections.
-        let bytes = message(alloc, 26, 2013, flags, &[1, 5, 0, 0, 0, 0])?;
+        let bytes = message(alloc, 26, 2013, flags, &[2, 5, 0, 0, 0, 0])?;
         let wanted = wanted.map_or(MsgFault::Sections { at: 20 }, |bit| MsgFault::Flags { bit });
-        assert_eq!(rt; fault(alloc, &bytes), Some(wanted), "of {flags} and kind 1");
+        assert_eq!(rt; fault(alloc, &bytes), Some(wanted), "of {flags} and kind 2");
     }
     Ok(())
 }
@@ -268,8 +268,9 @@ fn judges_flags(rt: HostRuntime) -> Result<(), Fail> {
 fn judges_sections(rt: HostRuntime) -> Result<(), Fail> {
     let alloc = rt.alloc();
     let cases: [(&[u8], MsgFault); 16] = [
-        // Another kind than 0, first or behind the document.
-        (&[1, 5, 0, 0, 0, 0], MsgFault::Sections { at: 20 }),
+        // No section of kind 0.
+        (&[1, 5, 0, 0, 0, 0], MsgFault::Sections { at: 26 }),
+        // A kind that is not known, or a section of kind 1 that is cut, first or behind the document.
         (&[2, 5, 0, 0, 0, 0], MsgFault::Sections { at: 20 }),
         (&[255, 5, 0, 0, 0, 0], MsgFault::Sections { at: 20 }),
         (&[0, 5, 0, 0, 0, 0, 1], MsgFault::Sections { at: 26 }),
@@ -389,6 +390,36 @@ fn judges_depth(rt: HostRuntime) -> Result<(), Fail> {
         let total = 26 + 7 * (levels - 1);
         let bytes = message(alloc, total, 2013, 0, &sections)?;
         assert_eq!(rt; fault(alloc, &bytes), wanted, "of {levels} levels");
+    }
+    Ok(())
+}
+
+/// A document in which documents lie inside one another, each under the name `a`, in so many levels.
+fn nest(alloc: Global, levels: u32) -> Result<Document, Fail> {
+    let mut document = Document::new(alloc);
+    for _ in 1..levels {
+        let mut outer = Document::new(alloc);
+        named(alloc, &mut outer, "a", Value::Doc(document))?;
+        document = outer;
+    }
+    Ok(document)
+}
+
+#[test]
+#[tactic(auto, unfolding(crate::specs::Flags::refused_bit))]
+fn writes_no_deep_document(rt: HostRuntime) -> Result<(), Fail> {
+    let alloc = rt.alloc();
+    // Each level but the innermost has three bytes of an element's front more than the five of a document.
+    for (levels, wanted) in [
+        (1, Ok(26)),
+        (2, Ok(34)),
+        (100, Ok(818)),
+        (101, Err(EncodeFault::Deep)),
+        (102, Err(EncodeFault::Deep)),
+    ] {
+        let document = nest(alloc, levels)?;
+        let written = write(alloc, 7, 1, 0, &document).map(|bytes| bytes.len());
+        assert_eq!(rt; written, wanted, "of {levels} levels");
     }
     Ok(())
 }

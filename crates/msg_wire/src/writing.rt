@@ -1,8 +1,8 @@
-ghost use Rattle.std.specs.Prelude.{◌≡◌, ◌+◌, ◌≤◌, ◌<◌, ◌++◌, length, None, IfOk, OnOk, IfErr};
+ghost use Rattle.std.specs.Prelude.{◌≡◌, ◌+◌, ◌≤◌, ◌<◌, ◌++◌, length, false, None, Err, IfOk, OnOk, IfErr};
 ghost use Rattle.std.specs.Int.{w32, cast_unsigned};
 ghost use Rattle.bson_doc.specs.Documents.{depth_of};
-ghost use Rattle.bson_wire.specs.Spelled.{int32};
-ghost use Rattle.msg_wire.specs.Flags.{refused_bit};
+ghost use Rattle.bson_wire.specs.Spelled.{number32};
+ghost use Rattle.msg_wire.specs.Flags.{refused_bit, is_set};
 ghost use Rattle.msg_wire.specs.Framing.{Framed, frame, framing, header, message_of};
 
 use crate::limits::{FRONT, MOST_BYTES, OP_MSG};
@@ -21,13 +21,16 @@ pub fn write(
     flags: u32,
     body: &Document,
 ) -> Result<Bytes, EncodeFault>
-    requires { refused_bit flags ≡ None }
+    requires known { refused_bit flags ≡ None }
+    requires no_checksum { is_set flags 0 ≡ false }
     ensures ok { IfOk result (λ bytes. bytes ≡ frame id to flags body.now) }
     ensures framed { IfOk result (λ bytes. Framed bytes (message_of id to flags body.now)) }
 
-    // Each fault comes exactly where the document has it, unless memory runs out.
+    // Each fault comes exactly where the document has it, unless memory runs out. A document with too many levels is
+    // refused whatever the memory.
     ensures fits { OnOk result
         ((depth_of body.now ≤ 100) × (length (frame id to flags body.now) ≤ 48000000)) }
+    ensures levels { 100 < depth_of body.now → result ≡ Err EncodeFault.Deep }
     ensures deep { IfErr result (λ e. e ≡ EncodeFault.Deep → 100 < depth_of body.now) }
     ensures long { IfErr result
         (λ e. e ≡ EncodeFault.Long
@@ -66,7 +69,7 @@ fn put_header(out: &mut Vec<u8>, total: u32, id: i32, to: i32) -> Result<(), Mem
 }
 
 fn put_number(out: &mut Vec<u8>, number: u32) -> Result<(), Memory>
-    ensures { OnOk result (out.new.items ≡ out.old.items ++ int32 number) }
+    ensures { OnOk result (out.new.items ≡ out.old.items ++ number32 number) }
 {
     let mut bytes = [0; 4];
     LittleEndian::write_u32(&mut bytes, number);

@@ -31,7 +31,7 @@ returns-clause-framed c =
     let body = c.args.body.now in
     let spells : Spells (spelled body) body = subst (λ s. Spells s body) x.ok x.spells in
     let size : length (frame c.args.id c.args.to c.args.flags body) ≤ 48000000 = omega (arith, length-frame c.args.id c.args.to c.args.flags body, ap length x.ok) in
-    let framed = Framed-frame c.args.id c.args.to c.args.flags body c.ranges.id c.ranges.to c.ranges.flags.fits c.requires spells size in
+    let framed = Framed-frame c.args.id c.args.to c.args.flags body c.ranges.id c.ranges.to c.ranges.flags.fits c.requires.known c.requires.no_checksum spells size in
     subst (λ bytes. Framed bytes (message_of c.args.id c.args.to c.args.flags body)) (sym (returns-clause-ok c)) framed
 
 pub returns-clause-fits : goal.returns-clause-fits

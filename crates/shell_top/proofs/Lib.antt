@@ -1,0 +1,2 @@
+mod VolleyLemmas
+mod WordLemmas

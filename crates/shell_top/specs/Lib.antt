@@ -1,0 +1,6 @@
+pub mod Asking
+pub mod Reply
+pub mod Report
+pub mod Requests
+pub mod Wired
+pub mod Words

@@ -1,0 +1,31 @@
+ghost use Rattle.std.specs.Prelude.{◌≡◌, ◌≤◌, ◌+◌, ◌++◌, length, IfOk, OnOk, OnErr, string_bytes, count_by};
+ghost use Rattle.write_retry.specs.Outcomes.{is_ok};
+ghost use Rattle.shell_top.specs.Report.{lines, ok_count, report};
+
+use crate::shot::Shot;
+use bson_doc::Memory;
+use report_text::{last_line, line};
+use std::alloc::Global;
+
+/// The report of shots, one line each, and a last line that counts them.
+pub fn report_of(alloc: Global, shots: &[Shot]) -> Result<String, Memory>
+    requires { length shots.now ≤ 100000 }
+    ensures { IfOk result (λ text. string_bytes text ≡ report shots.now) }
+{
+    let mut text = String::new(alloc);
+    let mut number: u32 = 1;
+    for shot in shots {
+        text.push_str(line(alloc, number, &shot.outcome, 1)?.as_str())?;
+        number += 1;
+    }
+    text.push_str(last_line(alloc, number - 1, count_ok(shots))?.as_str())?;
+    Ok(text)
+}
+
+/// How many of the shots' lines are ok.
+fn count_ok(shots: &[Shot]) -> u32
+    requires { length shots.now ≤ 100000 }
+    ensures { result ≡ ok_count shots.now }
+{
+    shots.iter().filter(|shot| shot.outcome.is_ok()).count() as u32
+}

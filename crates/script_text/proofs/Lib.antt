@@ -1,0 +1,3 @@
+pub mod ParsedLemmas
+pub mod LineLemmas
+pub mod AnswerLemmas

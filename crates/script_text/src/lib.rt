@@ -1,0 +1,37 @@
+//! Scripts: texts of commands, one JSON object (RFC 8259) a line.
+//!
+//! [`read_script`] takes a script of at most 16,777,216 bytes from a source and answers its commands in order, at most
+//! 100,000, or the first fault with its line. A line ends with LF, and a CR before it is dropped; the last line needs no
+//! LF. A line of spaces alone, or of nothing, is skipped and counted. Each other line is an object in UTF-8 with these
+//! members and no others:
+//!
+//! | Member | Value |
+//! |---|---|
+//! | `lane` | an integer from 1 to 64 |
+//! | `op` | `insert` |
+//! | `coll` | a text, not empty, without a zero |
+//! | `db` | the same, or absent |
+//! | `doc` | an object |
+//!
+//! Lines are read in order, and in a line the faults are, in this order, that it does not parse or nests past 127 levels,
+//! that it has not this shape, that the lane is out of its range, and that the document is at fault.
+//!
+//! The claim begins at the parsed value: which value a line's text is, and that a member which stands twice counts by its
+//! last value, is `serde_json`'s definition (`Read.read`), which contracts here cite and do not judge.
+#![tactic(auto)]
+
+mod command;
+mod fault;
+mod line;
+mod lines;
+mod script;
+mod stop;
+mod taking;
+#[cfg(test)]
+mod tests;
+
+pub use fault::{ScriptFault, ScriptKind, ScriptRead};
+pub use script::read_script;
+
+/// Want of memory, the error of calls that can fail in no other way.
+pub type Memory = std::alloc::AllocError;

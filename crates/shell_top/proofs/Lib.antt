@@ -1,2 +1,4 @@
+mod RequestLemmas
+mod ScriptLemmas
 mod VolleyLemmas
 mod WordLemmas

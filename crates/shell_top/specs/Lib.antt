@@ -2,5 +2,6 @@ pub mod Asking
 pub mod Reply
 pub mod Report
 pub mod Requests
+pub mod Run
 pub mod Wired
 pub mod Words

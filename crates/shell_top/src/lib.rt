@@ -4,11 +4,13 @@
 mod attempt;
 mod report;
 mod requests;
+mod running;
 mod shoot;
 mod shot;
 mod status;
 mod volley;
 mod words;
 
+pub use running::run;
 pub use shot::{Shot, ShotEnd};
 pub use status::{Ended, Status, UseFault};

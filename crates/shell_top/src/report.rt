@@ -1,6 +1,5 @@
-ghost use Rattle.std.specs.Prelude.{◌≡◌, ◌≤◌, ◌+◌, ◌++◌, length, IfOk, OnOk, OnErr, string_bytes, count_by};
-ghost use Rattle.write_retry.specs.Outcomes.{is_ok};
-ghost use Rattle.shell_top.specs.Report.{lines, ok_count, report};
+ghost use Rattle.std.specs.Prelude.{◌≡◌, ◌≤◌, length, IfOk, string_bytes};
+ghost use Rattle.shell_top.specs.Report.{ok_count, report};
 
 use crate::shot::Shot;
 use bson_doc::Memory;
@@ -13,12 +12,12 @@ pub fn report_of(alloc: Global, shots: &[Shot]) -> Result<String, Memory>
     ensures { IfOk result (λ text. string_bytes text ≡ report shots.now) }
 {
     let mut text = String::new(alloc);
-    let mut number: u32 = 1;
-    for shot in shots {
-        text.push_str(line(alloc, number, &shot.outcome, 1)?.as_str())?;
-        number += 1;
+    for (place, shot) in shots.iter().enumerate() {
+        let line = line(alloc, place as u32 + 1, &shot.outcome, 1)?;
+        text.push_str(line.as_str())?;
     }
-    text.push_str(last_line(alloc, number - 1, count_ok(shots))?.as_str())?;
+    let last = last_line(alloc, shots.len() as u32, count_ok(shots))?;
+    text.push_str(last.as_str())?;
     Ok(text)
 }
 

@@ -1,4 +1,4 @@
-ghost use Rattle.std.specs.Prelude.{◌≡◌, ◌≤◌, ◌+◌, [], All, length, take, IsOk, OnOk};
+ghost use Rattle.std.specs.Prelude.{◌≡◌, ◌<◌, ◌≤◌, ◌+◌, pos, [], All, length, take, IsOk, OnOk};
 ghost use Rattle.shell_top.specs.Requests.{AreShallow, AreShotsOf, requests};
 ghost use Rattle.shell_top.specs.Wired.{AreSentOnce, AreWiredTo, IsShot};
 
@@ -33,11 +33,18 @@ pub fn shoot_all<R: Wait, N: Net, C: Clock>(
     ensures once { N.tells → AreSentOnce (requests db.now 1 commands.now) (N.history net.old) (N.history net.new) }
 {
     shots.reserve(commands.len())?;
-    let mut id: i32 = 1;
-    'shooting: for command in commands {
+    'shooting: for (place, command) in commands.iter().enumerate() {
+        let id = id_of(place);
         let shot = attempt(rt, alloc, net, clock, address, db, command, id)?;
         shots.put(shot);
-        id += 1;
     }
     Ok(())
+}
+
+/// The id of the request of the command at that place, counted from 0.
+fn id_of(place: usize) -> i32
+    requires { place < 100000 }
+    ensures { result ≡ pos (place + 1) }
+{
+    place as i32 + 1
 }

@@ -1,4 +1,4 @@
-use Rattle.std.proofs.Common.{◌≡◌, ◌≤◌, ◌+◌, pos, length, take, All}
+use Rattle.std.proofs.Common.{◌≡◌, ◌≤◌, ◌+◌, length, take, All}
 use Rattle.shell_top.specs.Requests.{AreShotsOf, requests}
 use Rattle.shell_top.specs.Wired.{IsShot, AreWired, AreSentOnce}
 use Rattle.shell_top.proofs.volley.shoot_all.Given as goal
@@ -6,12 +6,11 @@ use Rattle.shell_top.proofs.volley.shoot_all.Given as goal
 -- The commands so far were shot, and there is room for the others' shots.
 abbrev pub invariant-shooting : goal.invariant-shooting
 invariant-shooting g l = record {
-  count : length l.shots.items ≡ l.command-index;
-  room : length l.commands ≤ l.shots.room + l.command-index;
-  number : l.id ≡ pos (l.command-index + 1);
+  count : length l.shots.items ≡ l.place;
+  room : length l.commands ≤ l.shots.room + l.place;
   later : g.N.Net.faults l.fn.net ≤ g.N.Net.faults l.net;
-  commands : AreShotsOf l.db 1 (take l.command-index l.commands) l.shots.items;
+  commands : AreShotsOf l.db 1 (take l.place l.commands) l.shots.items;
   shots : All (IsShot g.C.Clock.shows (g.N.Net.faults l.fn.net) (g.N.Net.faults l.net)) l.shots.items;
   wired : g.N.Net.tells → AreWired l.address 1 (g.N.Net.history l.fn.net) (g.N.Net.history l.net) l.shots.items;
-  once : g.N.Net.tells → AreSentOnce (requests l.db 1 (take l.command-index l.commands)) (g.N.Net.history l.fn.net) (g.N.Net.history l.net);
+  once : g.N.Net.tells → AreSentOnce (requests l.db 1 (take l.place l.commands)) (g.N.Net.history l.fn.net) (g.N.Net.history l.net);
 }

@@ -1,5 +1,3 @@
-mod FlawLemmas
 mod MeansLemmas
 mod RequestLemmas
-mod TrackLemmas
 mod WordLemmas

@@ -1,53 +1,110 @@
 -- How a shot's end means what its stream told.
-use Rattle.std.proofs.Common.{◌≡◌, ℕ, true, List, [], ◌∷◌, Some, rules, Result, Ok, Err, IfOk, ◌∙◌, sym, ap, subst, inl, inr}
-use Rattle.msg_wire.specs.Reading.{flaw}
-use Rattle.std.specs.declared.alloc.AllocError.{AllocError}
+use Rattle.std.proofs.Common.{◌≡◌, ◌≢◌, ℕ, List, [], ◌∷◌, ◌++◌, Some, rules, ◌∙◌, refl, sym, ap, subst, inl, inr, append-nil}
+use Rattle.net_link.specs.Events.{Adds, IsFresh}
+use Rattle.net_link.specs.Prefix.{IsPrefixOf}
 use Rattle.net_link.specs.Seen.{Seen, seen, unseen}
 use Rattle.net_link.specs.declared.event.NetEvent.{NetEvent}
-use Rattle.net_link.specs.Events.{Adds, IsFresh}
-use Rattle.net_link.proofs.EventLemmas.{Adds-trans}
-use Rattle.net_link.specs.Prefix.{IsPrefixOf}
 use Rattle.net_link.specs.declared.event.NetEvent.TheVariants as event
-use Rattle.net_link.proofs.PrefixLemmas.{IsPrefixOf-from_eq}
+use Rattle.net_link.proofs.EventLemmas.{Adds-none, Adds-trans}
 use Rattle.net_link.proofs.SeenLemmas.{seen-closed, seen-dialled, seen-fresh}
-use Rattle.mdc.specs.Exchange.{MeansReply, RepliesSo, SendsOnly}
-use Rattle.mdc.specs.Track.{Moves, Starts}
-use Rattle.mdc.specs.Wired.{AnswersAnother, IsAnswer, IsFaultyAt, IsNotWhole, Means, SendsOnce, none, on, UsesOnly, Wired}
-use Rattle.mdc.specs.declared.exchange.Ending.{Ending}
+use Rattle.msg_wire.specs.Framing.{Framed}
+use Rattle.msg_wire.specs.Reading.{flaw}
+use Rattle.msg_wire.specs.declared.fault.MsgFault.{MsgFault}
+use Rattle.msg_wire.specs.declared.message.Message.{Message}
+use Rattle.msg_wire.proofs.Asked.{flaw-nil}
+use Rattle.desk_wire.specs.Exchange.{exchange_end, Exchanges}
+use Rattle.desk_wire.specs.Fronts.{IsFront}
+use Rattle.desk_wire.specs.State.{State}
+use Rattle.desk_wire.specs.declared.answers.Pulled.{Pulled}
+use Rattle.desk_wire.specs.declared.answers.Pulled.TheVariants as pulled
+use Rattle.desk_wire.proofs.SeenLemmas.{made-ended, made-fault, made-here, made-moves, made-waits}
+use Rattle.mdc.specs.Conversation.{Concludes, ready, SendsOnly}
+use Rattle.mdc.specs.Wired.{Means, none, on, place_of, SendsOnce, UsesOnly, Wired}
 use Rattle.mdc.specs.declared.outcome.FirstOutcome.{FirstOutcome}
 use Rattle.mdc.specs.declared.shot.ShotEnd.{ShotEnd}
 use Rattle.mdc.specs.declared.shot.ShotEnd.TheVariants as end
-use Rattle.msg_wire.proofs.Asked.{flaw-nil}
-use Rattle.mdc.proofs.TrackLemmas.{sends-all, sends-front, starts-empty}
 
--- Where all of the request is out, the end means what the bytes that came say.
-Means-from_reply : (v : Seen) (request came : List ℕ) (ended : ShotEnd) (said : FirstOutcome) → v.out ≡ request → v.came ≡ came
-    → MeansReply v came ended said → Means v request ended said
-Means-from_reply v request came end.Replied said out same means = (out, subst (λ xs. IsAnswer xs said) (sym same) means)
-Means-from_reply v request came end.Cut said out same means = (IsPrefixOf-from_eq _ _ out, subst IsNotWhole (sym same) means.0, means.1)
-Means-from_reply v request came end.Fault said out same means = (IsPrefixOf-from_eq _ _ out, subst IsNotWhole (sym same) means.0, means.1)
-Means-from_reply v request came end.TimedOut said out same means = (IsPrefixOf-from_eq _ _ out, subst IsNotWhole (sym same) means.0, means.1)
-Means-from_reply v request came (end.Bad at) said out same means =
-    (out, elim means [ inl faulty ↦ inl (subst (λ xs. IsFaultyAt xs at) (sym same) faulty) | inr other ↦ inr (subst (λ xs. AnswersAnother xs at) (sym same) other) ])
-Means-from_reply v request came end.NoDial said out same means = means
+-- A new wire's exchange on a stream on which nothing was: the bytes out and in are those of the exchange.
+traded-moves : {tells : Type 0} (s : ℕ) (request : List ℕ) (w : State) (answer : Pulled) {a b : List NetEvent} (ex : Exchanges tells (ready s request) w a b answer) → tells
+    → seen s a ≡ unseen → ((seen s b).out ≡ ex.sent) × ((seen s b).came ≡ ex.came)
+traded-moves s request w answer ex t fresh =
+    let moved = made-moves s ex.sent ex.came w.unsent answer (ex.told t) in
+    (moved.is_out ∙ ap (λ v. v.out ++ ex.sent) fresh, moved.is_in ∙ ap (λ v. v.came ++ ex.came) fresh)
 
-pub means-whole : {s : ℕ} {a b c : List NetEvent} {request : List ℕ} (ending : Result Ending AllocError) → seen s a ≡ unseen → Moves s a b request []
-    → RepliesSo s b c ending → IfOk ending (λ e. Means (seen s c) request e.end e.outcome)
-means-whole (Err failed) fresh went replies = tt
-means-whole (Ok e) fresh went replies =
-    let both = sends-all fresh went replies.moves in
-    Means-from_reply _ _ replies.came e.end e.outcome both.0 both.1 replies.means
+pub sends-traded : {tells : Type 0} (s : ℕ) (request : List ℕ) (w : State) (answer : Pulled) {a b : List NetEvent} → Exchanges tells (ready s request) w a b answer → tells
+    → seen s a ≡ unseen → SendsOnly s request a b
+sends-traded s request w answer ex t fresh = record {
+  only = record { events = (ex.told t).turns ++ exchange_end s w.unsent answer; adds = (ex.told t).adds; here = made-here s ex.sent ex.came w.unsent answer (ex.told t) };
+  out = record { more = w.unsent; joined = ap (λ (l : List ℕ). l ++ w.unsent) (traded-moves s request w answer ex t fresh).0 ∙ ex.joined };
+}
 
--- Nothing came while the request was sent.
-pub means-fault : {s : ℕ} {a b : List NetEvent} {request : List ℕ} (said : FirstOutcome) → seen s a ≡ unseen → Starts s a b request → (seen s b).fault ≡ true
-    → Means (seen s b) request end.Fault said
-means-fault said fresh starts fault =
-    ((sends-front fresh starts).out, record { need = 16; short = ap flaw (starts-empty fresh starts) ∙ flaw-nil }, fault)
+-- Nothing was done.
+pub sends-none : (s : ℕ) (request : List ℕ) (h : List NetEvent) → seen s h ≡ unseen → SendsOnly s request h h
+sends-none s request h fresh = record {
+  only = record { events = []; adds = Adds-none h; here = search rules };
+  out = record { more = request; joined = ap (λ v. v.out ++ request) fresh };
+}
 
-pub means-late : {s : ℕ} {a b : List NetEvent} {request : List ℕ} (said : FirstOutcome) → seen s a ≡ unseen → Starts s a b request → (seen s b).waits ≡ true
-    → Means (seen s b) request end.TimedOut said
-means-late said fresh starts waits =
-    ((sends-front fresh starts).out, record { need = 16; short = ap flaw (starts-empty fresh starts) ∙ flaw-nil }, waits)
+all-sent : (sent rest request : List ℕ) → sent ++ rest ≡ request → rest ≡ [] → sent ≡ request
+all-sent sent rest request joined left = sym (append-nil sent) ∙ ap (λ (l : List ℕ). sent ++ l) (sym left) ∙ joined
+
+-- What came is a front: it is held, or nothing came since something is unsent.
+front-of : (unsent held came : List ℕ) → held ≡ came → (unsent ≡ [] → IsFront held) → (unsent ≢ [] → came ≡ []) → IsFront came
+front-of [] held came same front behind = subst IsFront same (front refl)
+front-of (x ∷ unsent) held came same front behind = record { need = 16; short = ap flaw (behind (λ e. cc)) ∙ flaw-nil }
+
+-- A message came: the answer, or that to another request.
+means-message : (v : Seen) (request : List ℕ) (message : Message) (ended : ShotEnd) (said : FirstOutcome) → v.out ≡ request → Framed v.came message → Concludes message ended said
+    → Means v request ended said
+means-message v request message end.Replied said out framed concludes = (out, record { message = message; framed = framed; answers = concludes.0; says = concludes.1 })
+means-message v request message (end.Bad at) said out framed concludes = (out, inr (record { message = message; framed = framed; other = concludes.0; is_place = concludes.1 }))
+means-message v request message end.Cut said out framed concludes = absurd concludes
+means-message v request message end.Fault said out framed concludes = absurd concludes
+means-message v request message end.TimedOut said out framed concludes = absurd concludes
+means-message v request message end.NoDial said out framed concludes = absurd concludes
+
+pub means-whole : {tells : Type 0} (s : ℕ) (request : List ℕ) (w : State) (message : Message) (ended : ShotEnd) (said : FirstOutcome) {a b : List NetEvent}
+    → Exchanges tells (ready s request) w a b (pulled.Whole message) → tells → seen s a ≡ unseen → Concludes message ended said → Means (seen s b) request ended said
+means-whole s request w message ended said {b = b} ex t fresh concludes =
+    let moves = traded-moves s request w (pulled.Whole message) ex t fresh in
+    means-message (seen s b) request message ended said (moves.0 ∙ all-sent ex.sent w.unsent request ex.joined ex.gives.2)
+    (subst (λ (l : List ℕ). Framed l message) (sym moves.1) ex.gives.0) concludes
+
+pub means-cut : {tells : Type 0} (s : ℕ) (request : List ℕ) (w : State) (said : FirstOutcome) {a b : List NetEvent} → Exchanges tells (ready s request) w a b pulled.End → tells
+    → seen s a ≡ unseen → Means (seen s b) request end.Cut said
+means-cut s request w said ex t fresh =
+    let moves = traded-moves s request w pulled.End ex t fresh in
+    ((sends-traded s request w pulled.End ex t fresh).out, subst IsFront (ex.gives.0 ∙ sym moves.1) ex.gives.1, made-ended s ex.sent ex.came w.unsent (ex.told t))
+
+pub means-fault : {tells : Type 0} (s : ℕ) (request : List ℕ) (w : State) (said : FirstOutcome) {a b : List NetEvent} → Exchanges tells (ready s request) w a b pulled.Fault → tells
+    → seen s a ≡ unseen → Means (seen s b) request end.Fault said
+means-fault s request w said ex t fresh =
+    let moves = traded-moves s request w pulled.Fault ex t fresh in (
+      (sends-traded s request w pulled.Fault ex t fresh).out,
+      subst IsFront (sym moves.1) (front-of w.unsent w.held ex.came ex.gives.0 ex.gives.1 ex.behind),
+      made-fault s ex.sent ex.came w.unsent (ex.told t),
+    )
+
+pub means-late : {tells : Type 0} (s : ℕ) (request : List ℕ) (w : State) (said : FirstOutcome) {a b : List NetEvent} → Exchanges tells (ready s request) w a b pulled.NotYet → tells
+    → seen s a ≡ unseen → Means (seen s b) request end.TimedOut said
+means-late s request w said ex t fresh =
+    let moves = traded-moves s request w pulled.NotYet ex t fresh in (
+      (sends-traded s request w pulled.NotYet ex t fresh).out,
+      subst IsFront (sym moves.1) (front-of w.unsent w.held ex.came ex.gives.0 ex.gives.1 ex.behind),
+      made-waits s ex.sent ex.came w.unsent (ex.told t),
+    )
+
+pub means-bad : {tells : Type 0} (s : ℕ) (request : List ℕ) (w : State) (first : MsgFault) (at : ℕ) (said : FirstOutcome) {a b : List NetEvent}
+    → Exchanges tells (ready s request) w a b (pulled.Bad first) → tells → seen s a ≡ unseen → place_of first ≡ Some at → Means (seen s b) request (end.Bad at) said
+means-bad s request w first at said ex t fresh place =
+    let moves = traded-moves s request w (pulled.Bad first) ex t fresh in (
+      moves.0 ∙ all-sent ex.sent w.unsent request ex.joined ex.gives.2,
+      inl (record { first = first; is_flaw = ap flaw (moves.1 ∙ sym ex.gives.0) ∙ ex.gives.1.is_flaw; is_place = place }),
+    )
+
+-- The wire is a new one that has the request to send.
+pub trades-at : {tells : Type 0} (u v w : State) (answer : Pulled) {a b : List NetEvent} → u ≡ v → Exchanges tells u w a b answer → Exchanges tells v w a b answer
+trades-at {tells = tells} u v w answer {a = a} {b = b} same ex = subst (λ x. Exchanges tells x w a b answer) same ex
 
 -- A dial, an exchange and a close on one new stream.
 pub unseen-dialled : {s : ℕ} {a b : List NetEvent} (address : List ℕ) → IsFresh s a → Adds (event.Dialled s address ∷ []) a b → seen s b ≡ unseen

@@ -1,10 +1,7 @@
-pub mod Ends
-pub mod Exchange
-pub mod Receive
+pub mod Conversation
 pub mod Reply
 pub mod Report
 pub mod Request
 pub mod Run
-pub mod Track
 pub mod Wired
 pub mod Words

@@ -10,17 +10,13 @@ use Rattle.msg_wire.specs.Reading.{flaw}
 use Rattle.msg_wire.specs.declared.fault.MsgFault.{MsgFault}
 use Rattle.msg_wire.specs.declared.fault.MsgFault.TheVariants as fault
 use Rattle.msg_wire.specs.declared.message.Message.{Message}
+use Rattle.desk_wire.specs.Fronts.{IsFront}
 use Rattle.mdc.specs.Reply.{Says}
 use Rattle.mdc.specs.Request.{REQUEST}
 use Rattle.mdc.specs.declared.outcome.FirstOutcome.{FirstOutcome}
 use Rattle.mdc.specs.declared.outcome.FirstOutcome.TheVariants as outcome
 use Rattle.mdc.specs.declared.shot.ShotEnd.{ShotEnd}
 use Rattle.mdc.specs.declared.shot.ShotEnd.TheVariants as end
-
--- What came is the front of a message, or nothing: its one fault is that more bytes are needed.
-pub record IsNotWhole (came : List ℕ) : Type 0 where
-  pub need : ℕ
-  pub short : flaw came ≡ Some (fault.Short need)
 
 -- The place that a fault names in the message: that of the header's field, or of the first byte at fault.
 abbrev pub place_of : MsgFault → Option ℕ
@@ -56,9 +52,9 @@ pub record IsAnswer (came : List ℕ) (said : FirstOutcome) : Type 0 where
 -- where an answer came; of the bytes that came; and of the cause.
 abbrev pub Means : Seen → List ℕ → ShotEnd → FirstOutcome → Type 0
 Means v request end.Replied said = (v.out ≡ request) × IsAnswer v.came said
-Means v request end.Cut said = IsPrefixOf v.out request × IsNotWhole v.came × (v.ended ≡ true)
-Means v request end.Fault said = IsPrefixOf v.out request × IsNotWhole v.came × (v.fault ≡ true)
-Means v request end.TimedOut said = IsPrefixOf v.out request × IsNotWhole v.came × (v.waits ≡ true)
+Means v request end.Cut said = IsPrefixOf v.out request × IsFront v.came × (v.ended ≡ true)
+Means v request end.Fault said = IsPrefixOf v.out request × IsFront v.came × (v.fault ≡ true)
+Means v request end.TimedOut said = IsPrefixOf v.out request × IsFront v.came × (v.waits ≡ true)
 Means v request (end.Bad at) said = (v.out ≡ request) × (IsFaultyAt v.came at ⊎ AnswersAnother v.came at)
 Means v request end.NoDial said = ⊥
 

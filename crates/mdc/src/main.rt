@@ -9,16 +9,13 @@
 //! where the report could not be written, 6 where memory ran out. For 2, 5 and 6 it prints one line on standard error.
 #![tactic(auto)]
 
-mod exchange;
-mod limit;
+mod conversation;
 mod machine_clock;
 mod outcome;
-mod receiving;
 mod reply;
 mod report;
 mod request;
 mod run;
-mod sending;
 mod shoot;
 mod shot;
 mod socket_net;

@@ -4,7 +4,7 @@ ghost use Rattle.mdc.specs.Request.{insert_request};
 ghost use Rattle.mdc.specs.Wired.{IsFailure, IsSaid, LIMIT, SendsOnce, Wired};
 ghost use Rattle.mdc.specs.declared.shot.ShotEnd.TheVariants as end;
 
-use crate::exchange::exchange;
+use crate::conversation::converse;
 use crate::outcome::FirstOutcome;
 use crate::shot::{Shot, ShotEnd};
 use bson_doc::{Bytes, Memory};
@@ -33,7 +33,7 @@ pub fn shoot<R: Wait, N: Net, C: Clock>(
     match net.dial(address) {
         Dialed::Stream(stream) => {
             let began = clock.now();
-            let ending = exchange(rt, alloc, net, clock, stream, began, request.as_slice());
+            let ending = converse(rt, alloc, net, clock, stream, began, request.as_slice());
             net.close(stream);
             let ending = ending?;
             Ok(Shot {

@@ -1,0 +1,68 @@
+-- The messages at the front of bytes.
+use Rattle.std.proofs.Common.{◌≡◌, ◌≢◌, ℕ, List, [], ◌∷◌, ◌++◌, None, Ok, length, drop, refl, sym, ap, ◌∙◌, subst, append_assoc, append-nil}
+use Rattle.std.proofs.Math.Seq.{drop-append_seam}
+use Rattle.std.specs.List.{flat_map}
+use Rattle.msg_wire.specs.Reading.{flaw, read}
+use Rattle.msg_wire.specs.declared.message.Message.{Message}
+use Rattle.msg_wire.proofs.Whole.{flaw-ok, read_again}
+use Rattle.desk_wire.specs.Messages.{Begins, bytes_queued, bytes_sent, Follow, handed, IsFirst, message_in, queued, Sending, Sends, sent, Step}
+use Rattle.desk_wire.specs.Pull.{HandsOut}
+use Rattle.desk_wire.specs.declared.answers.Pulled.{Pulled}
+use Rattle.desk_wire.specs.declared.answers.Pulled.TheVariants as pulled
+
+Begins-same : (bytes other : List ℕ) (messages : List Message) (rest : List ℕ) → other ≡ bytes → Begins bytes messages rest → Begins other messages rest
+Begins-same bytes other messages rest same begins = subst (λ (l : List ℕ). Begins l messages rest) (sym same) begins
+
+-- What a pull hands out begins the bytes.
+hands-first : (bytes between more : List ℕ) (answer : Pulled) (messages : List Message) (rest : List ℕ) → HandsOut bytes between answer → Begins (between ++ more) messages rest
+    → Begins (bytes ++ more) (message_in answer ++ messages) rest
+hands-first bytes between more (pulled.Whole message) messages rest hands begins = (
+  more,
+  record { text = bytes; parts = refl; framed = hands.0 },
+  subst (λ (l : List ℕ). Begins (l ++ more) messages rest) hands.1 begins,
+)
+hands-first bytes between more pulled.NotYet messages rest hands begins = subst (λ (l : List ℕ). Begins (l ++ more) messages rest) hands.0 begins
+hands-first bytes between more pulled.End messages rest hands begins = subst (λ (l : List ℕ). Begins (l ++ more) messages rest) hands.0 begins
+hands-first bytes between more pulled.Fault messages rest hands begins = subst (λ (l : List ℕ). Begins (l ++ more) messages rest) hands.0 begins
+hands-first bytes between more (pulled.Bad first) messages rest hands begins = subst (λ (l : List ℕ). Begins (l ++ more) messages rest) hands.0 begins
+hands-first bytes between more pulled.Memory messages rest hands begins = subst (λ (l : List ℕ). Begins (l ++ more) messages rest) hands.0 begins
+
+-- Pulls from bytes that were held.
+pub pulls-from : (before : List ℕ) (steps : List Step) (held : List ℕ) → Follow before steps held
+    → Begins (before ++ flat_map (λ step. step.came) steps) (flat_map handed steps) held
+pulls-from before [] held same = append-nil before ∙ same
+pulls-from before (step ∷ steps) held follow =
+    let later : Begins (follow.0 ++ flat_map (λ step. step.came) steps) (flat_map handed steps) held = pulls-from follow.0 steps held follow.2 in
+    Begins-same _ _ _ held (sym (append_assoc before step.came (flat_map (λ step. step.came) steps)))
+    (hands-first (before ++ step.came) follow.0 (flat_map (λ step. step.came) steps) step.answer (flat_map handed steps) held follow.1 later)
+
+-- Bytes that begin with a message have no flaw.
+first-flawless : (bytes : List ℕ) (message : Message) (rest : List ℕ) → IsFirst bytes message rest → read bytes ≡ Ok message
+first-flawless bytes message rest first = ap read first.parts ∙ read_again first.text rest message first.framed
+
+-- The first message and what is behind it are one.
+first-once : (bytes : List ℕ) (a b : Message) (rest other : List ℕ) → IsFirst bytes a rest → IsFirst bytes b other → (a ≡ b) × (rest ≡ other)
+first-once bytes a b rest other p q =
+    let is_same : Ok a ≡ Ok b = sym (first-flawless bytes a rest p) ∙ first-flawless bytes b other q in
+    let same : a ≡ b = cc in
+    let size : length p.text ≡ length q.text = sym p.framed.counted ∙ ap (λ m. m.length) same ∙ q.framed.counted in
+    let behind : rest ≡ other = sym (drop-append_seam p.text rest) ∙ ap (drop (length p.text)) (sym p.parts ∙ q.parts) ∙ ap (λ n. drop n (q.text ++ other)) size ∙ drop-append_seam q.text other in
+    (same, behind)
+
+pub parted-once : (bytes : List ℕ) (xs ys : List Message) (rest other : List ℕ) → Begins bytes xs rest → flaw rest ≢ None → Begins bytes ys other → flaw other ≢ None
+    → (xs ≡ ys) × (rest ≡ other)
+parted-once bytes [] [] rest other p no_more q no_other = (refl, sym p ∙ q)
+parted-once bytes [] (y ∷ ys) rest other p no_more q no_other = absurd (no_more (ap flaw (sym p) ∙ flaw-ok bytes y (first-flawless bytes y q.0 q.1)))
+parted-once bytes (x ∷ xs) [] rest other p no_more q no_other = absurd (no_other (ap flaw (sym q) ∙ flaw-ok bytes x (first-flawless bytes x p.0 p.1)))
+parted-once bytes (x ∷ xs) (y ∷ ys) rest other p no_more q no_other =
+    let first = first-once bytes x y p.0 q.0 p.1 q.1 in
+    let later = parted-once p.0 xs ys rest other p.2 no_more (Begins-same q.0 p.0 ys other first.1 q.2) no_other in
+    (ap (λ m. m ∷ xs) first.0 ∙ ap (λ ms. y ∷ ms) later.0, later.1)
+
+-- Calls that queue and send, from bytes that were unsent.
+pub sends-from : (before : List ℕ) (calls : List Sending) (unsent : List ℕ) → Sends before calls unsent → flat_map bytes_sent calls ++ unsent ≡ before ++ flat_map bytes_queued calls
+sends-from before [] unsent same = sym same ∙ sym (append-nil before)
+sends-from before (queued bytes ∷ calls) unsent sends = sends-from bytes calls unsent sends.1 ∙ ap (λ (l : List ℕ). l ++ (bytes ++ flat_map bytes_queued calls)) (sym sends.0)
+sends-from before (sent bytes ∷ calls) unsent sends =
+    append_assoc bytes (flat_map bytes_sent calls) unsent ∙ ap (λ (l : List ℕ). bytes ++ l) (sends-from sends.0 calls unsent sends.2)
+    ∙ sym (append_assoc bytes sends.0 (flat_map bytes_queued calls)) ∙ ap (λ (l : List ℕ). l ++ flat_map bytes_queued calls) sends.1

@@ -1,0 +1,8 @@
+pub mod Exchange
+pub mod Fronts
+pub mod Made
+pub mod Messages
+pub mod Pull
+pub mod Push
+pub mod State
+pub mod Steps

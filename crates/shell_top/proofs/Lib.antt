@@ -1,3 +1,4 @@
+mod MeansLemmas
 mod RequestLemmas
 mod ScriptLemmas
 mod VolleyLemmas

@@ -1,4 +1,5 @@
 pub mod Asking
+pub mod Conversation
 pub mod Reply
 pub mod Report
 pub mod Requests

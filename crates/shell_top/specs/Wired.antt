@@ -11,17 +11,13 @@ use Rattle.msg_wire.specs.Reading.{flaw}
 use Rattle.msg_wire.specs.declared.fault.MsgFault.{MsgFault}
 use Rattle.msg_wire.specs.declared.fault.MsgFault.TheVariants as fault
 use Rattle.msg_wire.specs.declared.message.Message.{Message}
+use Rattle.desk_wire.specs.Fronts.{IsFront}
 use Rattle.write_retry.specs.declared.outcome.Outcome.{Outcome}
 use Rattle.write_retry.specs.declared.outcome.Outcome.TheVariants as outcome
 use Rattle.shell_top.specs.Reply.{Says}
 use Rattle.shell_top.specs.declared.shot.Shot.{Shot}
 use Rattle.shell_top.specs.declared.shot.ShotEnd.{ShotEnd}
 use Rattle.shell_top.specs.declared.shot.ShotEnd.TheVariants as end
-
--- What came is the front of a message, or nothing: its one fault is that more bytes are needed.
-pub record IsNotWhole (came : List ℕ) : Type 0 where
-  pub need : ℕ
-  pub short : flaw came ≡ Some (fault.Short need)
 
 -- The place that a fault names in the message: that of the header's field, or of the first byte at fault.
 abbrev pub place_of : MsgFault → Option ℕ
@@ -57,9 +53,9 @@ pub record IsAnswer (id : ℤ) (came : List ℕ) (said : Outcome) : Type 0 where
 -- where an answer came; of the bytes that came; and of the cause.
 abbrev pub Means : ℤ → Seen → List ℕ → ShotEnd → Outcome → Type 0
 Means id v request end.Replied said = (v.out ≡ request) × IsAnswer id v.came said
-Means id v request end.Cut said = IsPrefixOf v.out request × IsNotWhole v.came × (v.ended ≡ true)
-Means id v request end.Fault said = IsPrefixOf v.out request × IsNotWhole v.came × (v.fault ≡ true)
-Means id v request end.TimedOut said = IsPrefixOf v.out request × IsNotWhole v.came × (v.waits ≡ true)
+Means id v request end.Cut said = IsPrefixOf v.out request × IsFront v.came × (v.ended ≡ true)
+Means id v request end.Fault said = IsPrefixOf v.out request × IsFront v.came × (v.fault ≡ true)
+Means id v request end.TimedOut said = IsPrefixOf v.out request × IsFront v.came × (v.waits ≡ true)
 Means id v request (end.Bad at) said = (v.out ≡ request) × (IsFaultyAt v.came at ⊎ AnswersAnother id v.came at)
 Means id v request end.NoDial said = ⊥
 Means id v request end.TooLarge said = ⊥

@@ -2,6 +2,8 @@
 #![tactic(auto)]
 
 mod attempt;
+mod conversation;
+mod reply;
 mod report;
 mod requests;
 mod running;

@@ -109,34 +109,46 @@ fn held_kinds(alloc: Global) -> Result<Document, Fail> {
     Ok(document)
 }
 
+fn is_binary(value: Option<&Value>, wanted: u8, held: &[u8]) -> bool {
+    match value {
+        Some(Value::Binary { subtype, bytes }) => *subtype == wanted && bytes.as_slice() == held,
+        _ => false,
+    }
+}
+
+fn is_regex(value: Option<&Value>, first: &str, second: &str) -> bool {
+    match value {
+        Some(Value::Regex { pattern, options }) => {
+            pattern.as_str() == first && options.as_str() == second
+        }
+        _ => false,
+    }
+}
+
+fn is_pointer(value: Option<&Value>, wanted: &str, id: Oid) -> bool {
+    match value {
+        Some(Value::DbPointer { space, oid }) => space.as_str() == wanted && *oid == id,
+        _ => false,
+    }
+}
+
+fn is_scope(value: Option<&Value>, wanted: &str, x: i64) -> bool {
+    match value {
+        Some(Value::Scope { code, scope }) => {
+            code.as_str() == wanted && matches!(scope.get("x"), Some(Value::Int64(n)) if *n == x)
+        }
+        _ => false,
+    }
+}
+
 #[test]
 fn what_a_copy_holds_is_what_was_held(rt: HostRuntime) -> Result<(), Fail> {
-    let copy = held_kinds(rt.alloc())?.copy(rt.alloc())?;
-    assert!(rt;
-        matches!(
-        copy.get("binary"),
-        Some(Value::Binary { subtype: 4, bytes }) if bytes.as_slice() == [1, 2].as_slice()
-    )
-    );
-    assert!(rt;
-        matches!(
-        copy.get("regex"),
-        Some(Value::Regex { pattern, options }) if pattern.as_str() == "^a" && options.as_str() == "ix"
-    )
-    );
-    assert!(rt;
-        matches!(
-        copy.get("pointer"),
-        Some(Value::DbPointer { space, oid: Oid([7, ..]) }) if space.as_str() == "db.c"
-    )
-    );
-    assert!(rt;
-        matches!(
-        copy.get("scope"),
-        Some(Value::Scope { code, scope }) if code.as_str() == "x"
-            && matches!(scope.get("x"), Some(Value::Int64(-1)))
-    )
-    );
+    let held = held_kinds(rt.alloc())?;
+    let copy = held.copy(rt.alloc())?;
+    assert!(rt; is_binary(copy.get("binary"), 4, &[1, 2]));
+    assert!(rt; is_regex(copy.get("regex"), "^a", "ix"));
+    assert!(rt; is_pointer(copy.get("pointer"), "db.c", Oid([7; 12])));
+    assert!(rt; is_scope(copy.get("scope"), "x", -1));
     Ok(())
 }
 

@@ -1,5 +1,5 @@
 -- What stands behind the header has no fault of the header.
-use Rattle.std.proofs.Common.{ℕ, zero, suc, ◌-◌, Bool, true, false, cond, ltb, leb, ◌||◌, List, [], ◌∷◌, length, take, drop, Option, Some, None, is_some, Result, Ok, Err, IfErr}
+use Rattle.std.proofs.Common.{ℕ, zero, suc, ◌-◌, Bool, true, false, cond, ltb, leb, ◌||◌, List, [], ◌∷◌, length, take, drop, Option, Some, is_some, Result, Ok, Err, IfErr}
 use Rattle.bson_doc.specs.declared.value.Document.{Document}
 use Rattle.bson_wire.specs.Reading.{until_zero}
 use Rattle.bson_wire.specs.Reading as documents

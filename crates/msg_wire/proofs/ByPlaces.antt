@@ -1,9 +1,8 @@
 -- The frame of a message by the places of its fields, and that it is the frame by parts.
-use Rattle.std.proofs.Common.{◌≡◌, ◌≤◌, ℕ, ◌+◌, List, [], ◌∷◌, ◌++◌, length, take, drop, None, refl, sym, ap, ◌∙◌, subst, arith, length-append}
+use Rattle.std.proofs.Common.{◌≡◌, ◌≤◌, ℕ, ◌+◌, List, [], ◌++◌, length, drop, None, refl, sym, ap, ◌∙◌, arith, length-append}
 use Rattle.std.specs.Int.{w32, cast_signed}
-use Rattle.std.proofs.lemmas.List.{append_assoc, drop_at, drop-drop, length-drop, length-take-le, take-append-drop}
+use Rattle.std.proofs.lemmas.List.{append_assoc, drop_at, drop-drop, length-drop, take-append-drop}
 use Rattle.byteorder.specs.Endian.{little_number}
-use Rattle.byteorder.specs.Numbers.{little_from-append}
 use Rattle.msg_wire.specs.Fields.{number_at, signed_at}
 use Rattle.msg_wire.specs.Flags.{refused_bit, checksum_size}
 use Rattle.msg_wire.specs.Framing.{AreSections, Framed}

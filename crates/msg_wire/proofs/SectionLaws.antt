@@ -1,24 +1,22 @@
 -- Sections: what is read of them is what they hold, and what they hold is read.
-use Rattle.std.proofs.Common.{◌≡◌, ℕ, zero, suc, ◌+◌, ◌-◌, ◌≤◌, ◌<◌, Bool, true, false, cond, ltb, leb, List, [], ◌∷◌, ◌++◌, length, Option, Some, None, is_some, Result, Ok, Err, refl, sym, ap, subst, ◌∙◌, append_assoc, arith, length-append, inl, inr, ◌⊎◌}
+use Rattle.std.proofs.Common.{◌≡◌, ℕ, zero, suc, ◌-◌, ◌≤◌, ◌<◌, Bool, true, false, ltb, leb, List, [], ◌∷◌, ◌++◌, length, Option, Some, None, is_some, Result, Ok, refl, sym, ap, subst, ◌∙◌, append_assoc, arith, length-append, inl, inr, ◌⊎◌}
 use Rattle.std.proofs.lemmas.Bool.{ltb-false, le-ltb}
 use Rattle.std.proofs.lemmas.Bool.Decides.{nat_tests}
-use Rattle.std.proofs.lemmas.List.{append-nil}
 use Rattle.bson_doc.specs.declared.value.Document.{Document}
 use Rattle.bson_wire.specs.Reading.{flaw}
 use Rattle.bson_wire.specs.Reading as documents
 use Rattle.bson_wire.proofs.Outermost.{read_takes, read_again}
 use Rattle.msg_wire.specs.Framing.{AreSections, AreSequences, IsBody, IsSequence}
 use Rattle.msg_wire.specs.Sections.{Held, closed_at, document_at, section_at, sections_at, sequence_at, with_section}
-use Rattle.msg_wire.specs.Steps.{◌>>=◌, or_fault}
+use Rattle.msg_wire.specs.Steps.{◌>>=◌}
 use Rattle.msg_wire.specs.declared.fault.MsgFault.{MsgFault}
-use Rattle.msg_wire.specs.declared.fault.MsgFault.TheVariants as fault
 use Rattle.msg_wire.specs.declared.section.Section.{Section}
 use Rattle.msg_wire.specs.declared.section.Section.TheVariants as section
 use Rattle.msg_wire.specs.declared.sequence.Sequence.{Sequence}
 use Rattle.msg_wire.proofs.DocumentLists.{document_at-ok}
 use Rattle.msg_wire.proofs.SequenceLaws.{sequence_takes, sequence_again}
 use Rattle.msg_wire.proofs.Sizes.{length-IsBody}
-use Rattle.msg_wire.proofs.Steps.{bind_ok, either_ok, err_ok, guard_ok, mapped_ok, ok_is, or_fault-Ok}
+use Rattle.msg_wire.proofs.Steps.{bind_ok, either_ok, err_ok, guard_ok, mapped_ok, or_fault-Ok}
 
 -- ---- one section
 

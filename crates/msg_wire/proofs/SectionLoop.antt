@@ -1,11 +1,10 @@
 -- Reading sections one after the other, as a loop does.
-use Rattle.std.proofs.Common.{◌≡◌, ℕ, zero, suc, ◌+◌, ◌-◌, ◌<◌, ◌≤◌, List, [], ◌∷◌, ◌++◌, length, Option, Some, None, is_some, Result, Ok, Err, refl, sym, ap, subst, ◌∙◌, append_assoc, arith}
+use Rattle.std.proofs.Common.{◌≡◌, ℕ, zero, suc, ◌<◌, ◌≤◌, List, [], ◌∷◌, ◌++◌, length, Option, Some, None, is_some, Result, Ok, Err, refl, sym, ap, subst, ◌∙◌, append_assoc, arith}
 use Rattle.std.proofs.lemmas.List.{append-nil}
 use Rattle.bson_doc.specs.declared.value.Document.{Document}
 use Rattle.msg_wire.specs.Sections.{Held, closed_at, section_at, sections_at, with_section}
 use Rattle.msg_wire.specs.Steps.{◌>>=◌, Fails}
 use Rattle.msg_wire.specs.declared.fault.MsgFault.{MsgFault}
-use Rattle.msg_wire.specs.declared.section.Section.{Section}
 use Rattle.msg_wire.specs.declared.section.Section.TheVariants as section
 use Rattle.msg_wire.specs.declared.sequence.Sequence.{Sequence}
 use Rattle.msg_wire.proofs.SectionLaws.{sections_at-end, sections_at-more}

@@ -1,17 +1,15 @@
 -- A section of kind 1: what is read is one, and one is read, whatever follows.
-use Rattle.std.proofs.Common.{◌≡◌, ℕ, ◌+◌, ◌-◌, ◌≤◌, ◌<◌, false, ltb, ◌||◌, List, [], ◌∷◌, ◌++◌, length, take, drop, Ok, Err, refl, sym, ap, subst, ◌∙◌, append_assoc, arith, length-append}
+use Rattle.std.proofs.Common.{◌≡◌, ℕ, ◌+◌, ◌-◌, ◌≤◌, false, ltb, ◌||◌, List, [], ◌∷◌, ◌++◌, length, take, drop, Ok, refl, sym, ap, subst, ◌∙◌, append_assoc, arith, length-append}
 use Rattle.std.proofs.lemmas.Bool.{ltb-false, le-ltb, or_parts, or_from}
 use Rattle.std.proofs.lemmas.List.{take_at, drop_at, take-append-drop, length-take-le}
-use Rattle.bson_wire.specs.Spelling.{IsNumber32}
 use Rattle.msg_wire.specs.Fields.{number_at}
 use Rattle.msg_wire.specs.Framing.{IsSequence}
 use Rattle.msg_wire.specs.Sections.{documents_at, name_at, sequence_at, size_at}
 use Rattle.msg_wire.specs.Steps.{◌>>=◌}
-use Rattle.msg_wire.specs.declared.fault.MsgFault.TheVariants as fault
 use Rattle.msg_wire.specs.declared.sequence.Sequence.{Sequence}
 use Rattle.msg_wire.proofs.DocumentLists.{documents_take, documents_again}
 use Rattle.msg_wire.proofs.Names.{name_takes, name_again}
-use Rattle.msg_wire.proofs.Places.{number_at-field, number_at-take, number-field_at, size-field_at}
+use Rattle.msg_wire.proofs.Places.{number_at-field, number_at-take, number-field_at}
 use Rattle.msg_wire.proofs.Steps.{bind_ok, guard_ok, mapped_ok, ok_is}
 
 record IsSize (bytes : List ℕ) (n : ℕ) : Type 0 where

@@ -1,5 +1,5 @@
 -- What is known of the steps of a reading from what it gave.
-use Rattle.std.proofs.Common.{◌≡◌, ℕ, Bool, true, false, cond, Option, Result, Ok, Err, Some, None, IfErr, refl, inl, inr, ◌⊎◌}
+use Rattle.std.proofs.Common.{◌≡◌, Bool, true, false, cond, Option, Result, Ok, Err, Some, None, IfErr, refl, inl, inr, ◌⊎◌}
 use Rattle.msg_wire.specs.declared.fault.MsgFault.{MsgFault}
 use Rattle.msg_wire.specs.declared.fault.MsgFault.TheVariants as fault
 use Rattle.msg_wire.specs.Steps.{◌>>=◌, Fails, fault_of, or_fault}

@@ -2,7 +2,7 @@
 -- OP_MSG, Sections; the faults, their order and their places are own). A reader is given `end`, the place where its bytes
 -- end, so that what is left begins at `end - length bytes`. Its fuel counts what it reads, of which each takes a byte at
 -- least; it is more than the bytes, so the case without fuel is never reached, and what it answers is not seen.
-use Rattle.std.specs.Prelude.{ℕ, zero, suc, ◌-◌, Bool, ◌||◌, List, [], ◌∷◌, length, take, drop, Option, Some, None, is_some, Result, Ok, Err, nat_lt, nat_le, if◌then◌else◌}
+use Rattle.std.specs.Prelude.{ℕ, zero, suc, ◌-◌, Bool, ◌||◌, List, [], ◌∷◌, length, take, drop, Option, Some, is_some, Result, Ok, Err, nat_lt, nat_le, if◌then◌else◌}
 use Rattle.std.specs.Str.{is_utf8}
 use Rattle.bson_doc.specs.declared.value.Document.{Document}
 use Rattle.bson_wire.specs.declared.fault.BsonFault.{BsonFault}

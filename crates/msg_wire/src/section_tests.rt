@@ -58,6 +58,11 @@ const THREE: [u8; 50] = [
 /// Four bytes that would be a section's front.
 const CHECKSUM: [u8; 4] = [0, 5, 0, 0];
 
+/// The length of a message with these sections, which are few.
+fn total_of(sections: &[u8]) -> u32 {
+    20 + sections.len().min(1_000) as u32
+}
+
 /// Whether a message with the body and these sections, and more bytes behind it, is read so.
 fn reads(
     alloc: Global,
@@ -69,7 +74,7 @@ fn reads(
     for section in sections {
         all.extend_from_slice(section)?;
     }
-    let total = 20 + all.len() as u32;
+    let total = total_of(&all);
     let mut bytes = message(alloc, total, 2013, flags, &all)?;
     bytes.extend_from_slice(&[1, 5, 0, 0, 0, 0])?;
     let read = read(alloc, &bytes)?;
@@ -183,7 +188,7 @@ fn judges_sequences(rt: HostRuntime) -> Result<(), Fail> {
         let mut sections = Vec::new(alloc);
         sections.extend_from_slice(&[0, 5, 0, 0, 0, 0])?;
         sections.extend_from_slice(section)?;
-        let total = 20 + sections.len() as u32;
+        let total = total_of(&sections);
         let mut bytes = message(alloc, total, 2013, 0, &sections)?;
         assert_eq!(rt; fault(alloc, &bytes), Some(wanted), "of {section:?}");
         bytes.extend_from_slice(&[0, 0, 0, 0, 0])?;

@@ -1,3 +1,4 @@
 pub mod ParsedLemmas
 pub mod LineLemmas
 pub mod AnswerLemmas
+mod Worked

@@ -1,5 +1,5 @@
 -- A text is cut where its first LF stands.
-use Rattle.std.proofs.Common.{◌≡◌, ◌<◌, ◌≤◌, ℕ, suc, ◌+◌, ◌==◌, List, [], ◌∷◌, length, take, drop, Bool, true, false, cond, not, Option, Some, None, refl, sym, ap, ◌∙◌, arith, ltb}
+use Rattle.std.proofs.Common.{◌≡◌, ◌<◌, ◌≤◌, ℕ, suc, ◌+◌, ◌==◌, List, [], ◌∷◌, length, take, drop, Bool, true, false, cond, not, Some, None, refl, ap, ◌∙◌, arith, ltb}
 use Rattle.std.specs.List.{position, position_or_len}
 use borrow.Author.Tests.{ltb-true}
 use Rattle.script_text.specs.Lines.{cut, onto, ended, lines_of, without_cr}

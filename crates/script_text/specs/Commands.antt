@@ -5,7 +5,6 @@ use Rattle.std.specs.Str.{is_utf8}
 use Rattle.serde_json.specs.Data.{Num, unsigned, negative, float, Data, object, Members, no_members, member}
 use Rattle.serde_json.specs.Find.{get, as_number, as_str, as_object, is_float}
 use Rattle.serde_json.specs.Read.{read}
-use Rattle.bson_doc.specs.declared.name.Name.{Name}
 use Rattle.bson_doc.specs.declared.value.Document.{Document}
 use Rattle.bson_text.specs.declared.fault.TextFault.{TextFault}
 use Rattle.bson_text.specs.declared.fault.TextFault.TheVariants as fault

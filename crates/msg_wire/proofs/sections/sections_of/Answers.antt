@@ -1,4 +1,4 @@
-use Rattle.std.proofs.Common.{◌≡◌, ◌<◌, ◌≤◌, length, arith}
+use Rattle.std.proofs.Common.{◌<◌, length, arith}
 use Rattle.std.proofs.lemmas.Result.{err_from_is_err_and}
 use Rattle.msg_wire.proofs.SectionLoop.{begins, goes_on_body, goes_on_kind1, stops, closes, does_not_close}
 use Rattle.msg_wire.proofs.sections.sections_of.Goals as goal

@@ -1,4 +1,4 @@
-use Rattle.std.proofs.Common.{◌≡◌, sym, ◌∙◌, arith}
+use Rattle.std.proofs.Common.{sym, arith}
 use Rattle.std.proofs.lemmas.Grind.{common_steps}
 use Rattle.script_text.proofs.LineLemmas.{lines_of-feed, lines_of-no_feed}
 use Rattle.script_text.proofs.lines.first_line.Goals as goal

@@ -1,4 +1,4 @@
-use Rattle.std.proofs.Common.{◌≡◌, ◌<◌, ◌≤◌, ℕ, length, arith}
+use Rattle.std.proofs.Common.{ℕ, arith}
 use Rattle.std.proofs.lemmas.List.{length-take}
 use Rattle.script_text.proofs.AnswerLemmas.{Answers-lines}
 use Rattle.script_text.proofs.script.read_text.Goals as goal

@@ -1,0 +1,4 @@
+mod changes;
+mod lines;
+mod readings;
+mod scenarios;

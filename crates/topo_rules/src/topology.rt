@@ -1,0 +1,193 @@
+ghost use Rattle.std.specs.Prelude.{◌≡◌, ◌≤◌, length, IfOk, OnOk, OnErr, IsSome, option_copied, slice_get};
+ghost use Rattle.std.specs.Option.{option_map};
+ghost use Rattle.std.specs.Arc.{arc_value};
+ghost use Rattle.std.specs.FinMap as map;
+ghost use Rattle.topo_rules.specs.Changes.{IsChange};
+ghost use Rattle.topo_rules.specs.Readings.{misfit_of, session_minutes_of};
+ghost use Rattle.topo_rules.specs.Rules.{opened, event_host, fresh, after};
+
+use crate::cell::cell_at;
+use crate::kinds::is_known;
+use crate::servers::Servers;
+use crate::table::{Shared, share, unknown};
+use crate::texts::{copy_text, take_text};
+use crate::{Change, Memory, TopoEvent, TopoKind};
+use bson_doc::{Oid, Text};
+use hello_reply::{ServerDescription, default_unknown};
+use host_name::Host;
+use rtt_mean::next;
+use std::alloc::Global;
+use std::sync::Arc;
+
+/// The topology: servers and what is known of them as a whole (SDAM, TopologyDescription).
+#[derive(Drop)]
+pub struct Topology {
+    pub(crate) kind: TopoKind,
+    pub(crate) set_name: Option<Text>,
+    pub(crate) max_election: Option<Oid>,
+    pub(crate) max_set_version: Option<i64>,
+    pub(crate) seeds: u32,
+    pub(crate) direct: bool,
+    pub(crate) servers: Servers,
+}
+
+impl Topology {
+    /// The topology of the seeds, each a default Unknown (SDAM, Initial Servers). A direct connection gives Single, else a
+    /// set name NoPrimary, else the kind is Unknown. Seeds count as often as they are listed: hosts are to differ.
+    pub fn start(
+        alloc: Global,
+        hosts: &[Host],
+        set_name: Option<&str>,
+        direct: bool,
+    ) -> Result<Topology, Memory>
+        requires { length hosts.now ≤ 16777216 }
+        ensures { IfOk result (λ topology. topology ≡ opened hosts.now (option_map (λ name. name.now) set_name.entry) direct) }
+    {
+        let servers = Servers::of_hosts(alloc, hosts)?;
+        let set_name = take_text(alloc, set_name)?;
+        let kind = if direct {
+            TopoKind::Single
+        } else if set_name.is_some() {
+            TopoKind::NoPrimary
+        } else {
+            TopoKind::Unknown
+        };
+        Ok(Topology {
+            kind,
+            set_name,
+            max_election: None,
+            max_set_version: None,
+            seeds: hosts.len() as u32,
+            direct,
+            servers,
+        })
+    }
+
+    /// The kind of the topology.
+    pub fn kind(&self) -> TopoKind
+        ensures { result ≡ self.now.kind }
+    {
+        self.kind
+    }
+
+    /// What is known of the server at a host; none where it is not in the topology.
+    pub fn find(&self, host: &Host) -> Option<&ServerDescription>
+        ensures { option_copied result ≡ map.get self.now.servers host.now }
+    {
+        self.servers.get(host)
+    }
+
+    /// How many servers there are.
+    pub fn len(&self) -> usize
+        ensures { result ≡ map.len self.now.servers }
+    {
+        self.servers.len()
+    }
+
+    /// What is known of the server at a place in the order of hosts; none from the place `len` on.
+    pub fn at(&self, place: usize) -> Option<&ServerDescription>
+        ensures { option_copied result ≡ slice_get (map.values self.now.servers) place }
+    {
+        self.servers.at(place)
+    }
+
+    /// The least session timeout of the data-bearing servers, in minutes; none where one has none or there are no such
+    /// servers (SDAM, logicalSessionTimeoutMinutes).
+    pub fn session_minutes(&self) -> Option<i64>
+        ensures { result ≡ session_minutes_of self.now.servers }
+    {
+        self.servers.session_minutes()
+    }
+
+    /// The least host's known server that speaks none of the wire versions 13 to 25 (SDAM, Checking wire protocol
+    /// compatibility).
+    pub fn misfit(&self) -> Option<&ServerDescription>
+        ensures { option_copied result ≡ misfit_of self.now.servers }
+    {
+        self.servers.misfit()
+    }
+
+    /// An equal topology. It shares its descriptions with this one.
+    pub fn copy(&self, alloc: Global) -> Result<Topology, Memory>
+        ensures { IfOk result (λ topology. topology ≡ self.now) }
+    {
+        let set_name = copy_text(alloc, &self.set_name)?;
+        let servers = self.servers.copy(alloc)?;
+        Ok(Topology {
+            kind: self.kind,
+            set_name,
+            max_election: self.max_election,
+            max_set_version: self.max_set_version,
+            seeds: self.seeds,
+            direct: self.direct,
+            servers,
+        })
+    }
+
+    /// What the event says of its host.
+    fn fresh(&self, alloc: Global, event: &TopoEvent) -> Result<ServerDescription, Memory>
+        ensures { IfOk result (λ description. description ≡ fresh self.now.servers event.now) }
+    {
+        match event {
+            TopoEvent::Reply {
+                description,
+                sample,
+            } => {
+                let mut fresh = description.copy(alloc)?;
+                fresh.mean = if is_known(description) {
+                    Some(next(self.servers.mean(&description.host), *sample))
+                } else {
+                    None
+                };
+                Ok(fresh)
+            }
+            TopoEvent::Broken { host, .. } => {
+                let fresh = default_unknown(alloc, host)?;
+                Ok(fresh)
+            }
+            TopoEvent::Refused { host, version, .. } => {
+                let mut fresh = default_unknown(alloc, host)?;
+                fresh.version = *version;
+                Ok(fresh)
+            }
+        }
+    }
+
+    /// The topology after an event.
+    fn next(&self, alloc: Global, event: &TopoEvent) -> Result<Topology, Memory>
+        ensures { IfOk result (λ topology. topology ≡ after self.now event.now) }
+    {
+        let fresh = self.fresh(alloc, event)?;
+        let kind = fresh.kind;
+        let fresh = share(alloc, fresh)?;
+        let mut next = self.copy(alloc)?;
+        let placed = Arc::try_clone(&fresh)?;
+        next.servers.put(alloc, &fresh.host, placed)?;
+        next.settle(alloc, cell_at(self.kind, kind), &fresh)?;
+        Ok(next)
+    }
+
+    /// The topology after an event, and what the event changed. The event's host is in this topology.
+    pub fn after(&self, alloc: Global, event: &TopoEvent) -> Result<(Topology, Change), Memory>
+        requires { IsSome (map.get self.now.servers (event_host event.now)) }
+        ensures topology { IfOk result (λ r. r.0 ≡ after self.now event.now) }
+        ensures change { IfOk result (λ r. IsChange self.now event.now (after self.now event.now) r.1) }
+    {
+        let next = self.next(alloc, event)?;
+        let change = Change::between(alloc, self, event, &next)?;
+        Ok((next, change))
+    }
+
+    /// Takes an event in, and tells what it changed. The event's host is in the topology. Where memory is wanting the
+    /// topology is as it was.
+    pub fn apply(&mut self, alloc: Global, event: &TopoEvent) -> Result<Change, Memory>
+        requires { IsSome (map.get self.old.servers (event_host event.now)) }
+        ensures topology { OnOk result (self.new ≡ after self.old event.now) }
+        ensures change { IfOk result (IsChange self.old event.now (after self.old event.now)) }
+        ensures err { OnErr result (self.new ≡ self.old) }
+    {
+        let (next, change) = self.after(alloc, event)?;
+        *self = next;
+        Ok(change)
+    }
+}

@@ -1,5 +1,7 @@
 mod MeansLemmas
+mod ReportLemmas
 mod RequestLemmas
+mod RunLemmas
 mod ScriptLemmas
 mod VolleyLemmas
 mod WordLemmas

@@ -10,6 +10,8 @@ mod running;
 mod shoot;
 mod shot;
 mod status;
+#[cfg(test)]
+mod tests;
 mod volley;
 mod words;
 

@@ -2,9 +2,8 @@
 
 ghost use Rattle.std.specs.Prelude.{◌≡◌, ◌<◌, []};
 
-use super::{FRONT, REPLY, REQUEST, insert, over_script};
-use crate::run::run;
-use crate::shot::ShotEnd;
+use super::{FRONT, REPLY, REQUEST, SCRIPT, one_host, over_script, source};
+use crate::{ShotEnd, run};
 use bson_doc::{Bytes, Rows};
 use net_link::{Came, Clock, Dialed, Net, NetEvent, TickClock, VecSink, Wrote};
 use std::alloc::Global;
@@ -98,7 +97,7 @@ impl Clock for StillClock {
     fn rest(&self, _micros: u64) {}
 }
 
-/// Runs the worked insert over a slow net, and answers what went out and how the shot ended.
+/// Runs the script of one insert over a slow net, and answers what went out and how the shot ended.
 fn over_slow<R: Wait, C: Clock>(
     rt: &R,
     alloc: Global,
@@ -115,7 +114,16 @@ fn over_slow<R: Wait, C: Clock>(
         out: Rows::new(alloc),
         given: 0,
     };
-    let ended = run(rt, alloc, &insert(alloc)?, &mut out, net, clock);
+    let mut script = source(alloc, SCRIPT)?;
+    let ended = run(
+        rt,
+        alloc,
+        &one_host(alloc)?,
+        &mut script,
+        &mut out,
+        net,
+        clock,
+    );
     let end = ended.shots.as_slice().first().map(|shot| shot.end);
     Ok((ended.net.out, end))
 }
@@ -142,7 +150,7 @@ fn a_reply_that_stops_in_the_middle_is_late(rt: HostRuntime) -> Result<(), Fail>
     let ended = over_script(
         &rt,
         alloc,
-        &insert(alloc)?,
+        &one_host(alloc)?,
         FRONT,
         7,
         false,

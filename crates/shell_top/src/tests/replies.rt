@@ -1,8 +1,7 @@
 //! What the reply says, and how it comes, decides the line.
 
-use super::{FRONT, REPLY, REQUEST, insert, over_script};
-use crate::shot::ShotEnd;
-use crate::status::Status;
+use super::{FRONT, REPLY, REQUEST, one_host, over_script};
+use crate::ShotEnd;
 use bson_doc::Rows;
 use net_link::VecSink;
 use std::test::Fail;
@@ -10,6 +9,10 @@ use std::test::Fail;
 /// `{ok: 1.0}` in answer to it.
 const WITHOUT_N: &[u8] =
     b"\x26\0\0\0\x07\0\0\0\x01\0\0\0\xdd\x07\0\0\0\0\0\0\0\x11\0\0\0\x01ok\0\0\0\0\0\0\0\xf0\x3f\0";
+
+/// `{n: 5000000000, ok: 1.0}` in answer to it, n an int64.
+const WIDE_N: &[u8] =
+    b"\x31\0\0\0\x07\0\0\0\x01\0\0\0\xdd\x07\0\0\0\0\0\0\0\x1c\0\0\0\x12n\0\x00\xf2\x05\x2a\x01\0\0\0\x01ok\0\0\0\0\0\0\0\xf0\x3f\0";
 
 /// `{ok: 1.0}` in answer to another one, of id 2.
 const TO_ANOTHER: &[u8] =
@@ -43,7 +46,17 @@ struct Case {
     end: ShotEnd,
 }
 
-const CASES: [Case; 15] = [
+const CASES: [Case; 16] = [
+    Case {
+        name: "an int64",
+        reply: WIDE_N,
+        most: 4096,
+        ends: false,
+        fails: 0,
+        step: 1_000_000,
+        line: "ok n=5000000000 modified=0",
+        end: ShotEnd::Replied,
+    },
     Case {
         name: "whole",
         reply: REPLY,
@@ -199,11 +212,11 @@ const CASES: [Case; 15] = [
 #[test]
 fn a_reply_decides_the_line(rt: HostRuntime) -> Result<(), Fail> {
     let alloc = rt.alloc();
-    let insert = insert(alloc)?;
+    let words = one_host(alloc)?;
     for case in CASES.iter() {
         let mut out = VecSink::new(alloc, 4096, Rows::new(alloc))?;
         let ended = over_script(
-            &rt, alloc, &insert, case.reply, case.most, case.ends, case.fails, case.step, &mut out,
+            &rt, alloc, &words, case.reply, case.most, case.ends, case.fails, case.step, &mut out,
         )?;
         let ok = case.line.starts_with("ok ");
         let wanted = format!(in alloc;
@@ -212,12 +225,7 @@ fn a_reply_decides_the_line(rt: HostRuntime) -> Result<(), Fail> {
             u8::from(ok)
         )?;
         assert_eq!(rt; out.written(), wanted.as_bytes(), "{}", case.name);
-        let status = if ok {
-            Status::AllOk
-        } else {
-            Status::SomeFailed
-        };
-        assert_eq!(rt; ended.status, status, "{}", case.name);
+        assert_eq!(rt; ended.status.code(), u8::from(!ok), "{}", case.name);
         assert_eq!(rt; ended.shots.len(), 1, "{}", case.name);
         for shot in ended.shots.as_slice() {
             assert_eq!(rt; shot.end, case.end, "{}", case.name);

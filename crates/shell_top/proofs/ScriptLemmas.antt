@@ -1,11 +1,10 @@
 -- What a script that was read says of its commands: how many they are, and how deep their documents lie.
-use Rattle.std.proofs.Common.{◌≡◌, ℕ, ℤ, pos, negsuc, decimal, ◌^◌, ◌+◌, ◌<◌, ◌≤◌, max, Bool, true, false, Option, Some, None, Result, Ok, Err, nat_lt, if◌then◌else◌, List, [], ◌∷◌, ◌++◌, length, take, map, refl, sym, ap, subst, ◌∙◌, arith, All, inl, inr}
+use Rattle.std.proofs.Common.{◌≡◌, ℕ, ℤ, pos, negsuc, decimal, ◌^◌, ◌+◌, ◌<◌, ◌≤◌, max, Bool, true, false, ◌&&◌, codes, Option, Some, None, Result, Ok, Err, nat_lt, if◌then◌else◌, List, [], ◌∷◌, ◌++◌, length, take, map, refl, sym, ap, subst, ◌∙◌, arith, All, inl, inr}
 use Rattle.std.proofs.lemmas.Bool.{ltb-false, ltb-true, lt-ltb, cases_lt}
 use Rattle.std.proofs.lemmas.List.{append-nil, take-append-le, length-append}
 use Rattle.std.proofs.lemmas.List.Elements.{All-append, All-cons, All-nil}
 use Rattle.serde_json.specs.Data.{Num, unsigned, negative, float, Data, null, boolean, number, string, array, object, Items, no_items, item, Members, no_members, member}
 use Rattle.bson_doc.specs.Documents.{depth_of, depth_inside, greatest}
-use Rattle.bson_doc.specs.declared.name.Name.{Name}
 use Rattle.bson_doc.specs.declared.value.Document.{Document}
 use Rattle.bson_doc.specs.declared.value.Value.{Value}
 use Rattle.bson_doc.specs.declared.value.Value.TheVariants as value
@@ -129,7 +128,7 @@ choice-shallow false r h = tt
 
 command_from-shallow : (d : Data) → IsShallow (command_from d)
 unfolding command_from
-command_from-shallow d = choice-shallow _ _ (command_with-shallow (lane_in d) (coll_in d) (db_in d) (doc_in d))
+command_from-shallow d = choice-shallow (has_known d && is_insert (text_in (codes "op") d)) (command_with (lane_in d) (coll_in d) (db_in d) (doc_in d)) (command_with-shallow (lane_in d) (coll_in d) (db_in d) (doc_in d))
 
 says_of-shallow : (found : Option Data) → IsShallow (says_of found)
 says_of-shallow None = tt
@@ -146,10 +145,10 @@ behind-shallow : (t : Bool) (r : Reading) (rest : List Reading) → IsShallow r.
 behind-shallow true r rest h all = all
 behind-shallow false r rest h all = All-append Shallow (command_in r.says) (commands_of rest) (command_in-shallow r.says h) all
 
-readings-shallow : (number : ℕ) (lines : List (List ℕ)) → All Shallow (commands_of (readings number lines))
-readings-shallow number [] = All-nil Shallow
-readings-shallow number (line ∷ lines) =
-    behind-shallow (is_blank line) (record { number = number; says = line_reading line }) (readings (number + 1) lines) (says_of-shallow (parsed line)) (readings-shallow (number + 1) lines)
+readings-shallow : (n : ℕ) (lines : List (List ℕ)) → All Shallow (commands_of (readings n lines))
+readings-shallow n [] = All-nil Shallow
+readings-shallow n (line ∷ lines) =
+    behind-shallow (is_blank line) (record { number = n; says = line_reading line }) (readings (n + 1) lines) (says_of-shallow (parsed line)) (readings-shallow (n + 1) lines)
 
 -- ---- how many they are
 
@@ -157,12 +156,12 @@ enough : (t : Bool) (first : ScriptFault) (others : List ScriptFault) → (if t 
 enough true first others e = (refl, e)
 enough false first others e = absurd (let never : ⊥ = cc in never)
 
-few_behind : (before number : ℕ) (says : Result Command ScriptKind) (rs : List Reading) → before ≤ 100000
-    → line_faults before number says ++ faults_of (before + length (command_in says)) rs ≡ []
+few_behind : (before n : ℕ) (says : Result Command ScriptKind) (rs : List Reading) → before ≤ 100000
+    → line_faults before n says ++ faults_of (before + length (command_in says)) rs ≡ []
     → (before + length (command_in says) ≤ 100000) × (faults_of (before + length (command_in says)) rs ≡ [])
-few_behind before number (Err told) rs le e = absurd (let never : ⊥ = cc in never)
-few_behind before number (Ok command) rs le e =
-    let room = enough (nat_lt before most_commands) _ _ e in
+few_behind before n (Err told) rs le e = absurd (let never : ⊥ = cc in never)
+few_behind before n (Ok command) rs le e =
+    let room = enough (nat_lt before most_commands) (fault_at n kind.Long) (faults_of (before + 1) rs) e in
     (let below : before < 100000 = ltb-true before 100000 room.0 in omega arith, room.1)
 
 few_commands : (before : ℕ) (rs : List Reading) → before ≤ 100000 → faults_of before rs ≡ [] → before + length (commands_of rs) ≤ 100000
@@ -183,16 +182,16 @@ read_script false fault r cs e = e
 
 lines_read : (text : List ℕ) (cs : List Command) → script_reading text ≡ Ok cs → lines_reading (lines_of text) ≡ Ok cs
 unfolding script_reading
-lines_read text cs e = read_script _ _ _ cs e
+lines_read text cs e = read_script (nat_lt most_bytes (length text)) (fault_at (line_behind (take most_bytes text)) kind.Long) (lines_reading (lines_of text)) cs e
 
 pub commands-shallow : (text : List ℕ) (cs : List Command) → script_reading text ≡ Ok cs → AreShallow cs
 commands-shallow text cs e =
-    let parts = read_lines _ cs _ (lines_read text cs e) in
+    let parts = read_lines (commands_of (readings 1 (lines_of text))) cs (faults_of 0 (readings 1 (lines_of text))) (lines_read text cs e) in
     subst (λ xs. All Shallow xs) parts.1 (readings-shallow 1 (lines_of text))
 
 pub commands-few : (text : List ℕ) (cs : List Command) → script_reading text ≡ Ok cs → length cs ≤ 100000
 commands-few text cs e =
-    let parts = read_lines _ cs _ (lines_read text cs e) in
+    let parts = read_lines (commands_of (readings 1 (lines_of text))) cs (faults_of 0 (readings 1 (lines_of text))) (lines_read text cs e) in
     omega (arith, ap length parts.1, few_commands 0 (readings 1 (lines_of text)) (omega arith) parts.0)
 
 -- What the bytes that were taken say is what all of the source says.

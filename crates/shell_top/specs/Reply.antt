@@ -13,15 +13,15 @@ abbrev pub field : List ℕ → Document → Option Value
 field name reply = value_of name reply.elements
 
 -- The code in an int32, and 0 of anything else and of an absent field.
-abbrev pub code_in : Option Value → ℤ
-code_in (Some (value.Int32 n)) = n
-code_in _ = pos 0
+abbrev pub number_in : Option Value → ℤ
+number_in (Some (value.Int32 n)) = n
+number_in _ = pos 0
 
 -- The whole number in an int32 or int64, and 0 of anything else and of an absent field.
-abbrev pub whole_in : Option Value → ℤ
-whole_in (Some (value.Int32 n)) = n
-whole_in (Some (value.Int64 n)) = n
-whole_in _ = pos 0
+abbrev pub count_in : Option Value → ℤ
+count_in (Some (value.Int32 n)) = n
+count_in (Some (value.Int64 n)) = n
+count_in _ = pos 0
 
 -- The command was carried out: its `ok` is one.
 abbrev pub IsOk : Document → Type 0
@@ -38,8 +38,8 @@ has_unread reply = list_any (λ name. is_some (field name reply)) UNREAD
 
 -- What a reply says. An insert modifies nothing.
 abbrev pub Says : Document → Outcome → Type 0
-Says reply (outcome.Ok n modified) = IsOk reply × (has_unread reply ≡ false) × (n ≡ whole_in (field (codes "n") reply)) × (modified ≡ pos 0)
-Says reply (outcome.Error code) = ¬ IsOk reply × (code ≡ code_in (field (codes "code") reply))
+Says reply (outcome.Ok n modified) = IsOk reply × (has_unread reply ≡ false) × (n ≡ count_in (field (codes "n") reply)) × (modified ≡ pos 0)
+Says reply (outcome.Error code) = ¬ IsOk reply × (code ≡ number_in (field (codes "code") reply))
 Says reply outcome.Unbuilt = IsOk reply × (has_unread reply ≡ true)
 Says reply outcome.Network = ⊥
 Says reply outcome.Late = ⊥

@@ -1,5 +1,5 @@
 ghost use Rattle.std.specs.Prelude.{◌≡◌, IsTrue, ◌↔◌, is_some};
-ghost use Rattle.shell_top.specs.Reply.{IsOk, Says, whole_in, field, has_unread, code_in};
+ghost use Rattle.shell_top.specs.Reply.{IsOk, Says, count_in, field, has_unread, number_in};
 
 use bson_doc::{Document, Value, is_one};
 use write_retry::Outcome;
@@ -10,14 +10,14 @@ pub fn read_reply(reply: &Document) -> Outcome
 {
     if !is_ok(reply) {
         return Outcome::Error {
-            code: code(reply, "code"),
+            code: number(reply, "code"),
         };
     }
     if has_unread(reply) {
         return Outcome::Unbuilt;
     }
     Outcome::Ok {
-        n: whole(reply, "n"),
+        n: count(reply, "n"),
         modified: 0,
     }
 }
@@ -51,8 +51,8 @@ fn has(reply: &Document, name: &str) -> bool
 }
 
 /// The code in the int32 of that name, 0 where there is none.
-fn code(reply: &Document, name: &str) -> i32
-    ensures { result ≡ code_in (field name.now reply.now) }
+fn number(reply: &Document, name: &str) -> i32
+    ensures { result ≡ number_in (field name.now reply.now) }
 {
     match reply.get(name) {
         Some(Value::Int32(n)) => *n,
@@ -61,8 +61,8 @@ fn code(reply: &Document, name: &str) -> i32
 }
 
 /// The whole number in the int32 or int64 of that name, 0 where there is none.
-fn whole(reply: &Document, name: &str) -> i64
-    ensures { result ≡ whole_in (field name.now reply.now) }
+fn count(reply: &Document, name: &str) -> i64
+    ensures { result ≡ count_in (field name.now reply.now) }
 {
     match reply.get(name) {
         Some(Value::Int32(n)) => i64::from(*n),

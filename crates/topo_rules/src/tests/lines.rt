@@ -180,7 +180,10 @@ pub fn shown(alloc: Global, topology: &Topology) -> Result<String, Fail> {
         None => line.push_str("-")?,
     }
     match topology.max_election {
-        Some(Oid([.., last])) => line.push_str(format!(in alloc; " e{last}")?.as_str())?,
+        Some(election) => {
+            let last = election.0[11];
+            line.push_str(format!(in alloc; " e{last}")?.as_str())?;
+        }
         None => line.push_str(" -")?,
     }
     match topology.max_set_version {

@@ -10,10 +10,6 @@ use std::test::Fail;
 const WITHOUT_N: &[u8] =
     b"\x26\0\0\0\x07\0\0\0\x01\0\0\0\xdd\x07\0\0\0\0\0\0\0\x11\0\0\0\x01ok\0\0\0\0\0\0\0\xf0\x3f\0";
 
-/// `{n: 5000000000, ok: 1.0}` in answer to it, n an int64.
-const WIDE_N: &[u8] =
-    b"\x31\0\0\0\x07\0\0\0\x01\0\0\0\xdd\x07\0\0\0\0\0\0\0\x1c\0\0\0\x12n\0\x00\xf2\x05\x2a\x01\0\0\0\x01ok\0\0\0\0\0\0\0\xf0\x3f\0";
-
 /// `{ok: 1.0}` in answer to another one, of id 2.
 const TO_ANOTHER: &[u8] =
     b"\x26\0\0\0\x07\0\0\0\x02\0\0\0\xdd\x07\0\0\0\0\0\0\0\x11\0\0\0\x01ok\0\0\0\0\0\0\0\xf0\x3f\0";
@@ -25,6 +21,18 @@ const REFUSED: &[u8] =
 /// `{ok: 1.0, cursor: 0}` in answer to it.
 const UNREAD: &[u8] =
     b"\x32\0\0\0\x07\0\0\0\x01\0\0\0\xdd\x07\0\0\0\0\0\0\0\x1d\0\0\0\x01ok\0\0\0\0\0\0\0\xf0\x3f\x10cursor\0\0\0\0\0\0";
+
+/// `{n: 4294967297, ok: 1.0}` in answer to it, with an int64.
+const LONG_N: &[u8] =
+    b"\x31\0\0\0\x07\0\0\0\x01\0\0\0\xdd\x07\0\0\0\0\0\0\0\x1c\0\0\0\x12n\0\x01\0\0\0\x01\0\0\0\x01ok\0\0\0\0\0\0\0\xf0\x3f\0";
+
+/// The reply with a section of kind 1 in front, named `a` and without documents.
+const WITH_SEQUENCE: &[u8] =
+    b"\x34\0\0\0\x07\0\0\0\x01\0\0\0\xdd\x07\0\0\0\0\0\0\x01\x06\0\0\0a\0\0\x18\0\0\0\x10n\0\x01\0\0\0\x01ok\0\0\0\0\0\0\0\xf0\x3f\0";
+
+/// The reply with a checksum, which is not compared.
+const WITH_CHECKSUM: &[u8] =
+    b"\x31\0\0\0\x07\0\0\0\x01\0\0\0\xdd\x07\0\0\x01\0\0\0\0\x18\0\0\0\x10n\0\x01\0\0\0\x01ok\0\0\0\0\0\0\0\xf0\x3f\0\x99\x99\x99\x99";
 
 /// The first 15 bytes of the reply.
 const FIFTEEN: &[u8] = b"\x2d\0\0\0\x07\0\0\0\x01\0\0\0\xdd\x07\0";
@@ -46,17 +54,7 @@ struct Case {
     end: ShotEnd,
 }
 
-const CASES: [Case; 16] = [
-    Case {
-        name: "an int64",
-        reply: WIDE_N,
-        most: 4096,
-        ends: false,
-        fails: 0,
-        step: 1_000_000,
-        line: "ok n=5000000000 modified=0",
-        end: ShotEnd::Replied,
-    },
+const CASES: [Case; 18] = [
     Case {
         name: "whole",
         reply: REPLY,
@@ -85,6 +83,36 @@ const CASES: [Case; 16] = [
         fails: 0,
         step: 1_000_000,
         line: "ok n=0 modified=0",
+        end: ShotEnd::Replied,
+    },
+    Case {
+        name: "an int64",
+        reply: LONG_N,
+        most: 4096,
+        ends: false,
+        fails: 0,
+        step: 1_000_000,
+        line: "ok n=4294967297 modified=0",
+        end: ShotEnd::Replied,
+    },
+    Case {
+        name: "a section of kind 1",
+        reply: WITH_SEQUENCE,
+        most: 4096,
+        ends: false,
+        fails: 0,
+        step: 1_000_000,
+        line: "ok n=1 modified=0",
+        end: ShotEnd::Replied,
+    },
+    Case {
+        name: "a checksum",
+        reply: WITH_CHECKSUM,
+        most: 4096,
+        ends: false,
+        fails: 0,
+        step: 1_000_000,
+        line: "ok n=1 modified=0",
         end: ShotEnd::Replied,
     },
     Case {

@@ -4,4 +4,3 @@ mod RequestLemmas
 mod RunLemmas
 mod ScriptLemmas
 mod VolleyLemmas
-mod WordLemmas

@@ -144,6 +144,10 @@ sends-as {s = s} {a = a} {b = b} same sends = subst (λ r. SendsOnly s r a b) sa
 pub means-as : (id : ℤ) (v : Seen) {xs request : List ℕ} (ended : ShotEnd) (said : Outcome) → xs ≡ request → Means id v xs ended said → Means id v request ended said
 means-as id v ended said same means = subst (λ r. Means id v r ended said) same means
 
+-- The same id in other words.
+pub means-of : (v : Seen) (request : List ℕ) (ended : ShotEnd) (said : Outcome) {i j : ℤ} → i ≡ j → Means i v request ended said → Means j v request ended said
+means-of v request ended said same means = subst (λ k. Means k v request ended said) same means
+
 pub once-as : {a b : List NetEvent} {xs request : List ℕ} → xs ≡ request → SendsOnce xs a b → SendsOnce request a b
 once-as {a = a} {b = b} same once = subst (λ r. SendsOnce r a b) same once
 

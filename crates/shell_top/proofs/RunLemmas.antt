@@ -1,6 +1,5 @@
 -- What the parts of a run say of the whole.
 use Rattle.std.proofs.Common.{◌≡◌, ℕ, ◌≤◌, Result, Ok, Err, List, [], ◌∷◌, ◌++◌, length, take, refl, sym, ap, subst, ◌∙◌, arith, All, inl, inr, ◌⊎◌}
-use Rattle.std.specs.Prelude.{IsOk}
 use Rattle.std.proofs.lemmas.List.{take_all}
 use Rattle.net_link.specs.declared.event.NetEvent.{NetEvent}
 use Rattle.cmd_build.specs.declared.command.Command.{Command}
@@ -8,16 +7,14 @@ use Rattle.script_text.specs.Scripts.{script_reading}
 use Rattle.script_text.specs.Taken.{Reads}
 use Rattle.script_text.specs.declared.fault.ScriptFault.{ScriptFault}
 use Rattle.script_text.specs.declared.fault.ScriptRead.TheVariants as stop
-use Rattle.shell_top.specs.Requests.{AreShotsOf, requests}
-use Rattle.shell_top.specs.Run.{IsDone, IsIdle, IsReached, IsScripts, IsUsage, Refuses, SendsEachOnce, ShootsAll, ShootsSome, Shoots, Tells}
+use Rattle.shell_top.specs.Requests.{AreShotsOf}
+use Rattle.shell_top.specs.Run.{IsDone, IsReached, Refuses, ShootsAll, Shoots, Tells}
 use Rattle.shell_top.specs.Wired.{AreSentOnce, AreWiredTo}
-use Rattle.shell_top.specs.Words.{Asked}
 use Rattle.shell_top.specs.declared.shot.Shot.{Shot}
 use Rattle.shell_top.specs.declared.status.Status.{Status}
 use Rattle.shell_top.specs.declared.status.Status.TheVariants as status
-use Rattle.shell_top.specs.declared.status.UseFault.{UseFault}
 use Rattle.shell_top.proofs.ScriptLemmas.{reading-of_source}
-use Rattle.shell_top.proofs.VolleyLemmas.{AreWired-none}
+use Rattle.shell_top.proofs.VolleyLemmas.{AreSentOnce-none, AreWired-none}
 
 -- ---- what was read of the source
 
@@ -35,37 +32,10 @@ tells-fault old new fault reads = record {
   of_source = λ t. ap script_reading (reads.taken.front t) ∙ reading-of_source reads.bytes new (reads.whole t tt) ∙ reads.says;
 }
 
+pub tells-as : {tells : Type 0} (source : List ℕ) (xs cs : List Command) → xs ≡ cs → Tells tells source (Ok cs) → Tells tells source (Ok xs)
+tells-as {tells = tells} source xs cs same script = subst (λ ys. Tells tells source (Ok ys)) (sym same) script
+
 -- ---- a run whose script was read
-
-pub reached-usage : (s : Status) → IsReached s → IsUsage s → ⊥
-reached-usage (status.Usage fault) reached is = reached
-reached-usage (status.Script fault) reached is = is
-reached-usage status.ReadFault reached is = is
-reached-usage status.AllOk reached is = is
-reached-usage status.SomeFailed reached is = is
-reached-usage status.WriteFault reached is = is
-reached-usage status.Memory reached is = is
-
-pub reached-idle : (s : Status) → IsReached s → IsIdle s → ⊥
-reached-idle (status.Usage fault) reached is = reached
-reached-idle (status.Script fault) reached is = reached
-reached-idle status.ReadFault reached is = reached
-reached-idle status.AllOk reached is = is
-reached-idle status.SomeFailed reached is = is
-reached-idle status.WriteFault reached is = is
-reached-idle status.Memory reached is = is
-
-pub reached-read : (s : Status) → IsReached s → s ≡ status.ReadFault → ⊥
-reached-read s reached is = subst IsReached is reached
-
-pub reached-scripts : (tells : Type 0) (source : List ℕ) (s : Status) → IsReached s → IsScripts tells source s
-reached-scripts tells source (status.Usage fault) reached = tt
-reached-scripts tells source (status.Script fault) reached = absurd reached
-reached-scripts tells source status.ReadFault reached = tt
-reached-scripts tells source status.AllOk reached = tt
-reached-scripts tells source status.SomeFailed reached = tt
-reached-scripts tells source status.WriteFault reached = tt
-reached-scripts tells source status.Memory reached = tt
 
 -- A script that has commands is not refused.
 pub not-refused : {tells : Type 0} (source : List ℕ) (commands : List Command) (fault : ScriptFault) (s : Status) → Tells tells source (Ok commands) → tells
@@ -102,28 +72,5 @@ reached-shoots source db commands status.Memory shots script reached each all = 
 pub wired-before : (address : List ℕ) (old new : List NetEvent) (done : Type 0) (shots : List Shot) → new ≡ old → shots ≡ [] → AreWiredTo address old new done shots
 wired-before address old new done shots same none = record { last = old; wired = AreWired-none address old shots none; all = λ d. same }
 
-pub shoots-before : (tells : Type 0) (source db : List ℕ) (s : Status) (shots : List Shot) → (s ≡ status.Memory) ⊎ IsIdle s → shots ≡ [] → Shoots tells source db s shots
-shoots-before tells source db (status.Usage fault) shots is none = none
-shoots-before tells source db (status.Script fault) shots is none = none
-shoots-before tells source db status.ReadFault shots is none = none
-shoots-before tells source db status.Memory shots is none = inl none
-shoots-before tells source db status.AllOk shots is none = absurd (elim is [ inl e ↦ (let never : ⊥ = cc in never) | inr h ↦ h ])
-shoots-before tells source db status.SomeFailed shots is none = absurd (elim is [ inl e ↦ (let never : ⊥ = cc in never) | inr h ↦ h ])
-shoots-before tells source db status.WriteFault shots is none = absurd (elim is [ inl e ↦ (let never : ⊥ = cc in never) | inr h ↦ h ])
-
--- ---- the words
-
-pub asked-same : (words : Result Asked UseFault) (a b : Asked) → words ≡ Ok a → words ≡ Ok b → a ≡ b
-asked-same words a b p q = cc
-
-pub asked-not_refused : {A : Type 0} (words : Result Asked UseFault) (a : Asked) (fault : UseFault) → words ≡ Ok a → words ≡ Err fault → A
-asked-not_refused words a fault p q = absurd (let never : ⊥ = cc in never)
-
-pub fault-same : (words : Result Asked UseFault) (a b : UseFault) → words ≡ Err a → words ≡ Err b → a ≡ b
-fault-same words a b p q = cc
-
-pub memory-not_refused : {A : Type 0} (words : Result Asked UseFault) (fault : UseFault) → IsOk words → words ≡ Err fault → A
-memory-not_refused words fault ok e = absurd (subst IsOk e ok)
-
-pub usage-not_reached : {A : Type 0} (s : Status) (fault : UseFault) → (IsUsage s → ⊥) → s ≡ status.Usage fault → A
-usage-not_reached s fault never is = absurd (never (subst IsUsage (sym is) tt))
+pub once-before : (rs : List (List ℕ)) (old new : List NetEvent) → new ≡ old → AreSentOnce rs old new
+once-before rs old new same = subst (λ h. AreSentOnce rs old h) (sym same) (AreSentOnce-none rs old)

@@ -75,14 +75,14 @@ mutual
       omega (arith, depth_inside-Doc (document_from ms), depth_of-elements (document_from ms), shallow-members (depth + 1) ms (omega arith) inner.1)
 
   shallow-items : (depth place : ℕ) (ds : Items) → depth ≤ 91 → item_flaws depth place ds ≡ [] → greatest depth_inside (values_from ds) + depth ≤ 91
-  shallow-items depth place no_items le e = le
+  shallow-items depth place no_items le e = omega arith
   shallow-items depth place (item d ds) le e =
       let first = shallow-value depth d le (map_empty _ _ (first_empty _ _ e)) in
       let others = shallow-items depth (place + 1) ds le (second_empty (map (under (decimal place)) (flaws depth d)) _ e) in
       omega arith
 
   shallow-members : (depth : ℕ) (ms : Members) → depth ≤ 91 → member_flaws depth ms ≡ [] → greatest (λ e. depth_inside e.1) (elements_from ms) + depth ≤ 91
-  shallow-members depth no_members le e = le
+  shallow-members depth no_members le e = omega arith
   shallow-members depth (member k d ms) le e =
       let rest = second_empty (name_flaws k) _ e in
       let first = shallow-value depth d le (map_empty _ _ (first_empty _ _ rest)) in
@@ -193,6 +193,9 @@ pub commands-few : (text : List ℕ) (cs : List Command) → script_reading text
 commands-few text cs e =
     let parts = read_lines (commands_of (readings 1 (lines_of text))) cs (faults_of 0 (readings 1 (lines_of text))) (lines_read text cs e) in
     omega (arith, ap length parts.1, few_commands 0 (readings 1 (lines_of text)) (omega arith) parts.0)
+
+pub shallow-as : (xs cs : List Command) → xs ≡ cs → AreShallow cs → AreShallow xs
+shallow-as xs cs same all = subst (λ ys. All Shallow ys) (sym same) all
 
 -- What the bytes that were taken say is what all of the source says.
 long_reading : (text : List ℕ) → most_bytes < length text → script_reading text ≡ Err (fault_at (line_behind (take most_bytes text)) kind.Long)

@@ -1,4 +1,4 @@
-ghost use Rattle.std.specs.Prelude.{◌≡◌, ◌≤◌, ◌+◌, Some, IfOk};
+ghost use Rattle.std.specs.Prelude.{◌≡◌, ◌≢◌, ◌≤◌, ◌+◌, Some, IfOk};
 ghost use Rattle.net_link.specs.Causes.{Rose};
 ghost use Rattle.net_link.specs.Seen.{seen, unseen};
 ghost use Rattle.desk_wire.specs.Fronts.{IsRefusal};
@@ -46,6 +46,7 @@ pub fn converse<R: Wait, N: Net, C: Clock>(
     requires unseen { N.tells → seen stream (N.history net.old) ≡ unseen }
     ensures open { N.is_open net.new stream }
     ensures later { N.faults net.old ≤ N.faults net.new }
+    ensures sent { IfOk result (λ e. e.end ≢ end.TooLarge) }
     ensures said { IfOk result (λ e. IsSaid e.end e.outcome) }
     ensures cause { IfOk result (λ e. IsFailure e.end → Rose (N.faults net.old) (N.faults net.new)) }
     ensures shown { IfOk result (λ e. C.shows e.ended) }
@@ -124,6 +125,7 @@ fn ending_late(moment: u64) -> Ending
 /// A message came: the answer, whose line says what it says, or that to another request.
 fn ending_by<C: Clock>(clock: &C, id: i32, message: &Message) -> Ending
     ensures concludes { Concludes id message.now result.end result.outcome }
+    ensures sent { result.end ≢ end.TooLarge }
     ensures said { IsSaid result.end result.outcome }
     ensures shown { C.shows result.ended }
 {

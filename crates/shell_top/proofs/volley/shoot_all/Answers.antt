@@ -1,4 +1,4 @@
-use Rattle.std.proofs.Common.{◌≡◌, ◌∷◌, ◌++◌, ◌∙◌, [], length, ap, arith, refl, rules}
+use Rattle.std.proofs.Common.{◌+◌, ◌∙◌, length, ap, arith, refl}
 use Rattle.std.proofs.lemmas.List.{length_push}
 use Rattle.shell_top.proofs.VolleyLemmas.{AreSentOnce-none, AreWired-none, sent_so_far, sent_to_end, shots_so_far, shots_wider, wired_so_far}
 use Rattle.shell_top.proofs.volley.shoot_all.Goals as goal
@@ -15,16 +15,16 @@ returns-in_err-reserve-clause-once g c = λ tells. AreSentOnce-none _ _
 
 pub returns-in_err-shot-clause-once : goal.returns-in_err-shot-clause-once
 returns-in_err-shot-clause-once g c = λ tells. sent_to_end _ _ (c.shooting.place + 1) _ _
-    (sent_so_far _ _ c.index-commands-place.result c.shooting.place _ _ _ _ (omega arith) c.index-commands-place.is c.id_of.ensures (c.shooting.invariant.once tells) (c.attempt.ensures.once tells))
+    (sent_so_far _ _ c.index-commands-place.result c.shooting.place _ _ _ _ (omega arith) c.index-commands-place.is c.id_of-id.ensures (c.shooting.invariant.once tells) (c.attempt.ensures.once tells))
 
 pub shooting-preserved : goal.shooting-preserved
 shooting-preserved g c = record {
   count = ap length c.put.ensures.items ∙ omega (arith, length_push c.shooting.shots.items c.in_ok-shot.shot);
   room = omega (arith, c.put.ensures.room);
   later = omega (arith, c.attempt.ensures.later, c.shooting.invariant.later);
-  commands = shots_so_far _ _ _ _ c.index-commands-place.result c.in_ok-shot.shot c.shooting.place _ (omega arith) c.index-commands-place.is c.shooting.invariant.count c.id_of.ensures c.put.ensures.items
+  commands = shots_so_far _ _ _ _ c.index-commands-place.result c.in_ok-shot.shot c.shooting.place _ (omega arith) c.index-commands-place.is c.shooting.invariant.count c.id_of-id.ensures c.put.ensures.items
       c.shooting.invariant.commands c.in_ok-shot.ensures.command;
   shots = shots_wider _ _ _ _ _ _ _ c.shooting.invariant.later c.attempt.ensures.later c.put.ensures.items c.shooting.invariant.shots c.in_ok-shot.ensures.shot;
-  wired = λ tells. wired_so_far _ _ _ _ _ _ _ c.shooting.place _ c.shooting.invariant.count c.id_of.ensures c.put.ensures.items (c.shooting.invariant.wired tells) (c.in_ok-shot.ensures.wired tells);
-  once = λ tells. sent_so_far _ _ c.index-commands-place.result c.shooting.place _ _ _ _ (omega arith) c.index-commands-place.is c.id_of.ensures (c.shooting.invariant.once tells) (c.attempt.ensures.once tells);
+  wired = λ tells. wired_so_far _ _ _ _ _ _ _ c.shooting.place _ c.shooting.invariant.count c.id_of-id.ensures c.put.ensures.items (c.shooting.invariant.wired tells) (c.in_ok-shot.ensures.wired tells);
+  once = λ tells. sent_so_far _ _ c.index-commands-place.result c.shooting.place _ _ _ _ (omega arith) c.index-commands-place.is c.id_of-id.ensures (c.shooting.invariant.once tells) (c.attempt.ensures.once tells);
 }

@@ -82,6 +82,12 @@ Shoots tells source db (status.Usage fault) shots = shots ≡ []
 Shoots tells source db (status.Script fault) shots = shots ≡ []
 Shoots tells source db status.ReadFault shots = shots ≡ []
 
+-- The script's commands have one shot each, and so one line.
+pub record HasLineEach (tells : Type 0) (source : List ℕ) (shots : List Shot) : Type 0 where
+  pub commands : List Command
+  pub script : Tells tells source (Ok commands)
+  pub count : length shots ≡ length commands
+
 -- The shots' lines as the status tells them: all are ok, or one is not; there are none where nothing was dialled.
 abbrev pub all_ok : List Shot → Bool
 all_ok shots = list_all (λ s. is_ok s.outcome) shots

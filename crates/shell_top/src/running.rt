@@ -3,7 +3,7 @@ ghost use Rattle.net_link.specs.Causes.{Rose};
 ghost use Rattle.script_text.specs.Scripts.{script_reading};
 ghost use Rattle.script_text.specs.declared.fault.ScriptFault.{ScriptFault};
 ghost use Rattle.shell_top.specs.Requests.{AreShallow, AreShotsOf, requests};
-ghost use Rattle.shell_top.specs.Run.{IsDone, IsIdle, IsReached, IsScripts, IsUsage, Refuses, SendsEachOnce, Shoots, Shows, Writes, all_ok};
+ghost use Rattle.shell_top.specs.Run.{HasLineEach, IsDone, IsIdle, IsReached, IsScripts, IsUsage, Refuses, SendsEachOnce, Shoots, Shows, Writes, all_ok};
 ghost use Rattle.shell_top.specs.Wired.{AreSentOnce, AreWiredTo, IsFailure, IsSaid, IsShot, LIMIT};
 ghost use Rattle.shell_top.specs.Words.{Asked, address_of, asks};
 ghost use Rattle.shell_top.specs.declared.shot.ShotEnd.TheVariants as end;
@@ -49,8 +49,9 @@ pub fn run<R: Wait, S: Source, K: Sink, N: Net, C: Clock>(
     // Nothing is dialled then.
     ensures idle { N.tells → IsIdle result.status → N.history result.net ≡ N.history net }
 
-    // The lines' verdict, and what was written of the report.
+    // The lines' verdict, one line a command, and what was written of the report.
     ensures shots { Shows result.status result.shots }
+    ensures lines { IsDone result.status → HasLineEach S.tells (S.left script.old) result.shots }
     ensures written { K.tells → Writes result.status result.shots (K.written out.old) (K.written out.new) }
     ensures write_fault { result.status ≡ Status.WriteFault → Rose (K.faults out.old) (K.faults out.new) }
 
@@ -96,6 +97,7 @@ fn run_script<R: Wait, S: Source, K: Sink, N: Net, C: Clock>(
     ensures shots { Shows result.status result.shots }
     ensures written { K.tells → Writes result.status result.shots (K.written out.old) (K.written out.new) }
     ensures write_fault { result.status ≡ Status.WriteFault → Rose (K.faults out.old) (K.faults out.new) }
+    ensures lines { IsDone result.status → HasLineEach S.tells (S.left script.old) result.shots }
     ensures requests { Shoots S.tells (S.left script.old) target.entry.db.now result.status result.shots }
     ensures each { All (IsShot C.shows (N.faults net) (N.faults result.net)) result.shots }
     ensures wired { N.tells → AreWiredTo (address_of target.entry.host) (N.history net) (N.history result.net) (IsDone result.status) result.shots }

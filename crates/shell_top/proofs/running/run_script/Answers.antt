@@ -14,6 +14,13 @@ run_commands-requires-clause-shallow g c =
 pub returns-in-Ok-clause-in_script : goal.returns-in-Ok-clause-in_script
 returns-in-Ok-clause-in_script g c = λ tells fault is. not-refused _ c.in-Ok.commands fault _ (tells-ok _ _ c.in-Ok.commands c.in-Ok.ensures.reads) tells is
 
+pub returns-in-Ok-clause-lines : goal.returns-in-Ok-clause-lines
+returns-in-Ok-clause-lines g c = λ done. record {
+  commands = c.as_slice.result.now;
+  script = tells-as _ _ c.in-Ok.commands c.as_slice.ensures (tells-ok _ _ c.in-Ok.commands c.in-Ok.ensures.reads);
+  count = c.run_commands.ensures.all done;
+}
+
 pub returns-in-Ok-clause-requests : goal.returns-in-Ok-clause-requests
 returns-in-Ok-clause-requests g c =
     reached-shoots _ _ c.as_slice.result.now _ _ (tells-as _ _ c.in-Ok.commands c.as_slice.ensures (tells-ok _ _ c.in-Ok.commands c.in-Ok.ensures.reads))

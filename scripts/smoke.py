@@ -1,6 +1,7 @@
 #!/usr/bin/env python3
 """The cases of scripts/smoke: what a peer answers over a real socket, and what mdc must print, end with and have sent."""
 
+import os
 import subprocess
 import sys
 import tempfile
@@ -10,7 +11,10 @@ from pathlib import Path
 HERE = Path(__file__).parent
 WAIT_SECONDS = 40
 
-# The insert of {_id: 7} into collection `a` of database `test`, request id 1, by the OP_MSG and BSON standards.
+# The script of one insert.
+SCRIPT = '{"lane":1,"op":"insert","coll":"a","doc":{"_id":7}}\n'
+
+# Its request: the insert of {_id: 7} into collection `a` of database `test`, with id 1, by the OP_MSG and BSON standards.
 REQUEST = (
     "96000000 01000000 00000000 dd070000 00000000 00 81000000"
     " 02 696e7365727400 02000000 6100"
@@ -37,6 +41,21 @@ def with_bytes(reply, place, digits):
     """The reply with other bytes at a place."""
     at = 2 * place
     return reply[:at] + digits + reply[at + len(digits):]
+
+
+def number(n):
+    """A number of four bytes, the lowest first."""
+    return n.to_bytes(4, "little").hex()
+
+
+def request(id):
+    """The request with another id, which stands at place 4."""
+    return with_bytes(REQUEST, 4, number(id))
+
+
+def reply_to(id):
+    """The reply to the request of that id; responseTo stands at place 8."""
+    return with_bytes(REPLY, 8, number(id))
 
 
 OK = "1: ok n=1 modified=0 attempts=1"
@@ -71,8 +90,8 @@ def wait_for(path):
     raise RuntimeError(f"{path} was not written")
 
 
-def run(mdc, words):
-    done = subprocess.run([mdc, *words], capture_output=True, text=True, timeout=WAIT_SECONDS)
+def run(mdc, words, script=SCRIPT):
+    done = subprocess.run([mdc, *words], input=script, capture_output=True, text=True, timeout=WAIT_SECONDS)
     return done.returncode, done.stdout, done.stderr
 
 
@@ -85,25 +104,68 @@ def compare(name, got, wanted, counts):
         print(f"FAILED: {name}\n  wanted {wanted!r}\n  got    {got!r}")
 
 
+class Peer:
+    """A loopback peer that answers one connection after another, each by its plan."""
+
+    def __init__(self, plans):
+        self.folder = tempfile.TemporaryDirectory()
+        port_file, self.received = Path(self.folder.name, "port"), Path(self.folder.name, "received")
+        self.process = subprocess.Popen([sys.executable, HERE / "responder.py", port_file, self.received, *plans])
+        self.host = "127.0.0.1:" + wait_for(port_file)
+
+    def end(self):
+        """Its status, and what it received, a request a line."""
+        status = self.process.wait(timeout=WAIT_SECONDS)
+        received = self.received.read_text().split() if self.received.exists() else []
+        self.folder.cleanup()
+        return status, received
+
+
 def peer_cases(mdc, counts):
-    with tempfile.TemporaryDirectory() as folder:
-        port_file, received_file = Path(folder, "port"), Path(folder, "received")
-        peer = subprocess.Popen(
-            [sys.executable, HERE / "responder.py", port_file, received_file, *[plan for _, plan, _, _ in CASES]]
-        )
-        host = "127.0.0.1:" + wait_for(port_file)
-        for name, _, line, status in CASES:
-            wanted = (status, f"{line}\ndone 1 ok {1 if status == 0 else 0}\n", "")
-            compare(name, run(mdc, ["insert", host, "test", "a", "7"]), wanted, counts)
-        compare("the peer ended well", peer.wait(timeout=WAIT_SECONDS), 0, counts)
-        compare("what was sent", received_file.read_text().split(), [REQUEST] * len(CASES), counts)
+    peer = Peer([plan for _, plan, _, _ in CASES])
+    for name, _, line, status in CASES:
+        wanted = (status, f"{line}\ndone 1 ok {1 if status == 0 else 0}\n", "")
+        compare(name, run(mdc, ["run", peer.host, "-", "test"]), wanted, counts)
+    compare("what was sent", peer.end(), (0, [REQUEST] * len(CASES)), counts)
+
+
+def script_cases(mdc, counts):
+    plans = [f"whole:{reply_to(id)}" for id in range(1, 7)]
+    plans[2], plans[4] = f"whole:{reply_to(9)}", f"cut:{reply_to(5)[:80]}"
+    peer = Peer(plans)
+    lines = [f"{k}: ok n=1 modified=0 attempts=1" for k in range(1, 7)]
+    lines[2], lines[4] = "3: bad-reply 8 attempts=1", "5: network attempts=1"
+    wanted = (1, "\n".join(lines) + "\ndone 6 ok 4\n", "")
+    compare("a wrong id and a cut", run(mdc, ["run", peer.host, "-", "test"], SCRIPT * 6), wanted, counts)
+    compare("the peer of those", peer.end(), (0, [request(id) for id in range(1, 7)]), counts)
+
+    count = 1000
+    peer = Peer([f"whole:{reply_to(id)}" for id in range(1, count + 1)])
+    began = time.monotonic()
+    got = run(mdc, ["run", peer.host, "-", "test"], SCRIPT * count)
+    took = time.monotonic() - began
+    lines = "".join(f"{k}: ok n=1 modified=0 attempts=1\n" for k in range(1, count + 1))
+    compare(f"a script of {count} inserts", got, (0, f"{lines}done {count} ok {count}\n", ""), counts)
+    compare("the peer of those", peer.end(), (0, [request(id) for id in range(1, count + 1)]), counts)
+    print(f"a script of {count} inserts took {took:.2f} seconds")
 
 
 def word_cases(mdc, counts):
-    for words in [[], ["insert"], ["insert", "h:1", "d", "c", "x"], ["insert", "h:1", "d", "c", "2147483648"], ["insert", "", "d", "c", "1"], ["run"]]:
+    refused = [[], ["run"], ["insert", "h:1", "d", "c", "1"], ["run", "h:1", "-", ""], ["run", "h:1", "", "d"], ["--help"],
+               ["run", "h:1,i:1", "-", "d"], ["run", "h:1", "rs0", "d"], ["run", "h:70000", "-", "d"]]
+    for words in refused:
         compare(f"the words {words}", run(mdc, words), (2, "", "mdc: usage\n"), counts)
-    compare("nothing listens", run(mdc, ["insert", "127.0.0.1:1", "test", "a", "7"]), (1, f"{NETWORK}\ndone 1 ok 0\n", ""), counts)
-    full = subprocess.run([mdc, "insert", "127.0.0.1:1", "test", "a", "7"], stdout=open("/dev/full", "w"), stderr=subprocess.PIPE, text=True, timeout=WAIT_SECONDS)
+    nobody = ["run", "127.0.0.1:1", "-", "test"]
+    compare("nothing listens", run(mdc, nobody), (1, f"{NETWORK}\ndone 1 ok 0\n", ""), counts)
+    compare("an empty script", run(mdc, nobody, ""), (0, "done 0 ok 0\n", ""), counts)
+    compare("lines of spaces, CR, no LF at the end", run(mdc, nobody, "  \r\n" + SCRIPT.replace("\n", "\r\n") + SCRIPT[:-1]),
+            (1, "1: network attempts=1\n2: network attempts=1\ndone 2 ok 0\n", ""), counts)
+    compare("a lane of 0 in the second line", run(mdc, nobody, SCRIPT + SCRIPT.replace('"lane":1', '"lane":0')), (3, "", "mdc: script line 2\n"), counts)
+    folder = os.open("/", os.O_RDONLY)
+    unread = subprocess.run([mdc, *nobody], stdin=folder, capture_output=True, text=True, timeout=WAIT_SECONDS)
+    os.close(folder)
+    compare("a script that cannot be read", (unread.returncode, unread.stdout, unread.stderr), (4, "", "mdc: read fault\n"), counts)
+    full = subprocess.run([mdc, *nobody], input=SCRIPT, stdout=open("/dev/full", "w"), stderr=subprocess.PIPE, text=True, timeout=WAIT_SECONDS)
     compare("an output that is full", (full.returncode, full.stderr), (5, "mdc: write fault\n"), counts)
 
 
@@ -111,14 +173,14 @@ class SilentCase:
     """A peer that never answers: the call comes back late. It runs beside the other cases."""
 
     def __init__(self, mdc):
-        self.folder = tempfile.TemporaryDirectory()
-        port_file, received_file = Path(self.folder.name, "port"), Path(self.folder.name, "received")
-        self.peer = subprocess.Popen([sys.executable, HERE / "responder.py", port_file, received_file, "silent:"])
-        host = "127.0.0.1:" + wait_for(port_file)
+        self.peer = Peer(["silent:"])
         self.began = time.monotonic()
         self.call = subprocess.Popen(
-            [mdc, "insert", host, "test", "a", "7"], stdout=subprocess.PIPE, stderr=subprocess.PIPE, text=True
+            [mdc, "run", self.peer.host, "-", "test"], stdin=subprocess.PIPE, stdout=subprocess.PIPE, stderr=subprocess.PIPE, text=True
         )
+        self.call.stdin.write(SCRIPT)
+        self.call.stdin.close()
+        self.call.stdin = None
 
     def end(self, counts):
         out, err = self.call.communicate(timeout=WAIT_SECONDS)
@@ -126,8 +188,7 @@ class SilentCase:
         wanted = (1, "1: late attempts=1\ndone 1 ok 0\n", "")
         compare("a peer that never answers", (self.call.returncode, out, err), wanted, counts)
         compare("it came back after 30 to 35 seconds", 30 <= took < 35, True, counts)
-        self.peer.wait(timeout=WAIT_SECONDS)
-        self.folder.cleanup()
+        self.peer.end()
 
 
 def main():
@@ -135,6 +196,7 @@ def main():
     counts = [0, 0]
     silent = SilentCase(mdc)
     peer_cases(mdc, counts)
+    script_cases(mdc, counts)
     word_cases(mdc, counts)
     silent.end(counts)
     print(f"{counts[0]} passed, {counts[1]} failed")

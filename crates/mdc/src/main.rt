@@ -1,54 +1,45 @@
-//! The program `mdc`: sends one insert to a MongoDB server and reports what came of it.
+//! The program `mdc`: sends a script of inserts to a MongoDB server and reports what came of each.
 //!
-//! `mdc insert HOST DB COLL ID` dials HOST, sends the insert of the document `{_id: ID}` as one message (MongoDB wire
-//! protocol, OP_MSG), reads one reply and prints two lines: the command's line and the count. [`run`] is the top call,
-//! over any net, clock and sink; its contract says what a run does. [`main`] makes the real objects, which are the
-//! trusted edge: a net of sockets, the machine's clock, the standard output.
+//! `mdc run HOST - DB` reads a script from the standard input, one JSON object a line, dials HOST for each command,
+//! sends it as one message (MongoDB wire protocol, OP_MSG), reads one reply and prints a line a command and their count.
+//! [`shell_top::run`] is the top call, over any source, sink, net and clock; its contract says what a run does. [`main`]
+//! makes the real objects, which are the trusted edge: the standard input and output, a net of sockets, the machine's
+//! clock.
 //!
-//! It ends with the status of the run: 0 where the line is ok, 1 where it is not, 2 where the words are not in form, 5
-//! where the report could not be written, 6 where memory ran out. For 2, 5 and 6 it prints one line on standard error.
+//! It ends with the status of the run: 0 where every line is ok, 1 where some line is not, 2 where the words are refused,
+//! 3 where the script is, 4 where the script could not be read, 5 where the report could not be written, 6 where memory
+//! ran out. For 2 to 6 it prints one line on standard error.
 #![tactic(auto)]
 
-mod conversation;
 mod machine_clock;
-mod outcome;
-mod reply;
-mod report;
-mod request;
-mod run;
-mod shoot;
-mod shot;
 mod socket_net;
+mod standard_input;
 mod standard_output;
-mod status;
-#[cfg(test)]
-mod tests;
-mod words;
 
 use bson_doc::{Rows, Text};
 use machine_clock::MachineClock;
-use run::run;
+use shell_top::{Status, UseFault, run};
 use socket_net::SocketNet;
+use standard_input::StandardInput;
 use standard_output::StandardOutput;
-use status::{Status, UseFault};
-use std::env;
-use std::io::ErrorKind;
+use std::io::{ErrorKind, Input};
 use std::process::ExitCode;
+use std::{env, io};
 
 fn main(rt: HostRuntime) -> ExitCode {
     let status = match words_of(&rt) {
         Ok(words) => {
+            let mut script = StandardInput::new(rt.reader());
             let mut out = StandardOutput::new(&rt);
             let net = SocketNet::new(rt.alloc(), &rt);
             let clock = MachineClock::new(&rt);
-            run(&rt, rt.alloc(), &words, &mut out, net, &clock).status
+            let ended = run(&rt, rt.alloc(), &words, &mut script, &mut out, net, &clock);
+            ended.status
         }
         Err(status) => status,
     };
-    if let Some(line) = complaint(status) {
-        // A complaint that cannot be printed changes nothing: the status tells it.
-        let _ = eprintln!(rt; "{line}");
-    }
+    // A complaint that cannot be printed changes nothing: the status tells it.
+    let _ = complain(&rt, &status);
     ExitCode::from(status.code())
 }
 
@@ -73,12 +64,14 @@ fn words_of(rt: &HostRuntime) -> Result<Rows<Text>, Status> {
     Ok(words)
 }
 
-/// The line on standard error for a run without a report.
-fn complaint(status: Status) -> Option<&'static str> {
+/// Prints the line on standard error for a run without a whole report.
+fn complain(rt: &HostRuntime, status: &Status) -> io::Result<()> {
     match status {
-        Status::AllOk | Status::SomeFailed => None,
-        Status::Usage(UseFault::Words) => Some("mdc: usage"),
-        Status::WriteFault => Some("mdc: write fault"),
-        Status::Memory => Some("mdc: memory"),
+        Status::AllOk | Status::SomeFailed => Ok(()),
+        Status::Usage(_) => eprintln!(rt; "mdc: usage"),
+        Status::Script(fault) => eprintln!(rt; "mdc: script line {}", fault.line),
+        Status::ReadFault => eprintln!(rt; "mdc: read fault"),
+        Status::WriteFault => eprintln!(rt; "mdc: write fault"),
+        Status::Memory => eprintln!(rt; "mdc: memory"),
     }
 }

@@ -1,3 +1,0 @@
-mod MeansLemmas
-mod RequestLemmas
-mod WordLemmas

@@ -1,0 +1,6 @@
+mod MeansLemmas
+mod ReportLemmas
+mod RequestLemmas
+mod RunLemmas
+mod ScriptLemmas
+mod VolleyLemmas

@@ -1,0 +1,8 @@
+pub mod Asking
+pub mod Conversation
+pub mod Reply
+pub mod Report
+pub mod Requests
+pub mod Run
+pub mod Wired
+pub mod Words

@@ -1,0 +1,144 @@
+-- How shots, one command on one stream each, belong together with what the net told of them.
+use Rattle.std.specs.Prelude.{◌≡◌, ◌≢◌, ◌≤◌, ℕ, ◌+◌, ℤ, pos, ◌⊎◌, Bool, true, false, List, [], ◌∷◌, ◌++◌, Option, Some, None, All}
+use Rattle.net_link.specs.Causes.{Rose}
+use Rattle.net_link.specs.Events.{Adds, IsFresh, is_at}
+use Rattle.net_link.specs.Prefix.{IsPrefixOf}
+use Rattle.net_link.specs.Seen.{Seen, seen}
+use Rattle.net_link.specs.declared.event.NetEvent.{NetEvent}
+use Rattle.net_link.specs.declared.event.NetEvent.TheVariants as event
+use Rattle.msg_wire.specs.Framing.{Framed}
+use Rattle.msg_wire.specs.Reading.{flaw}
+use Rattle.msg_wire.specs.declared.fault.MsgFault.{MsgFault}
+use Rattle.msg_wire.specs.declared.fault.MsgFault.TheVariants as fault
+use Rattle.msg_wire.specs.declared.message.Message.{Message}
+use Rattle.desk_wire.specs.Fronts.{IsFront}
+use Rattle.write_retry.specs.declared.outcome.Outcome.{Outcome}
+use Rattle.write_retry.specs.declared.outcome.Outcome.TheVariants as outcome
+use Rattle.shell_top.specs.Reply.{Says}
+use Rattle.shell_top.specs.declared.shot.Shot.{Shot}
+use Rattle.shell_top.specs.declared.shot.ShotEnd.{ShotEnd}
+use Rattle.shell_top.specs.declared.shot.ShotEnd.TheVariants as end
+
+-- The place that a fault names in the message: that of the header's field, or of the first byte at fault.
+abbrev pub place_of : MsgFault → Option ℕ
+place_of (fault.Length got) = Some 0
+place_of (fault.Opcode got) = Some 12
+place_of (fault.Flags bit) = Some 16
+place_of (fault.Sections at) = Some at
+place_of (fault.Body at inside) = Some at
+place_of (fault.Short need) = None
+place_of fault.Memory = None
+
+-- What came is faulty at the place.
+pub record IsFaultyAt (came : List ℕ) (at : ℕ) : Type 0 where
+  pub first : MsgFault
+  pub is_flaw : flaw came ≡ Some first
+  pub is_place : place_of first ≡ Some at
+
+-- What came is a message that answers another request; its responseTo stands at place 8.
+pub record AnswersAnother (id : ℤ) (came : List ℕ) (at : ℕ) : Type 0 where
+  pub message : Message
+  pub framed : Framed came message
+  pub other : message.to ≢ id
+  pub is_place : at ≡ 8
+
+-- What came is the answer to the request, and says so.
+pub record IsAnswer (id : ℤ) (came : List ℕ) (said : Outcome) : Type 0 where
+  pub message : Message
+  pub framed : Framed came message
+  pub answers : message.to ≡ id
+  pub says : Says message.body said
+
+-- What a shot's end says of its stream: of the bytes out, which are the request's, the last perhaps cut, and whole
+-- where an answer came; of the bytes that came; and of the cause.
+abbrev pub Means : ℤ → Seen → List ℕ → ShotEnd → Outcome → Type 0
+Means id v request end.Replied said = (v.out ≡ request) × IsAnswer id v.came said
+Means id v request end.Cut said = IsPrefixOf v.out request × IsFront v.came × (v.ended ≡ true)
+Means id v request end.Fault said = IsPrefixOf v.out request × IsFront v.came × (v.fault ≡ true)
+Means id v request end.TimedOut said = IsPrefixOf v.out request × IsFront v.came × (v.waits ≡ true)
+Means id v request (end.Bad at) said = (v.out ≡ request) × (IsFaultyAt v.came at ⊎ AnswersAnother id v.came at)
+Means id v request end.NoDial said = ⊥
+Means id v request end.TooLarge said = ⊥
+
+-- All that was asked of the net since then concerned this stream: first it was dialled to the address, at last it was
+-- closed.
+-- own: a stream of one request is given back whatever came of it.
+pub record UsesOnly (stream : ℕ) (address : List ℕ) (old new : List NetEvent) : Type 0 where
+  pub between : List NetEvent
+  pub here : All (λ e. is_at e stream ≡ true) between
+  pub adds : Adds (event.Dialled stream address ∷ (between ++ event.Closed stream ∷ [])) old new
+
+-- What the net told of a shot without a stream: a dial to the address that failed, or nothing, since what is too large
+-- is not sent.
+abbrev pub IsUndialled : List NetEvent → List NetEvent → List ℕ → ShotEnd → Type 0
+IsUndialled old new address end.NoDial = Adds (event.NoDial address ∷ []) old new
+IsUndialled old new address end.TooLarge = new ≡ old
+IsUndialled old new address _ = ⊥
+
+-- A shot with a stream has a stream of its own, dialled to the address, which told what the end says and was closed.
+abbrev pub Wired : List ℕ → ℤ → List NetEvent → List NetEvent → List ℕ → Option ℕ → ShotEnd → Outcome → Type 0
+Wired address id old new request None ended said = IsUndialled old new address ended
+Wired address id old new request (Some stream) ended said =
+    IsFresh stream old × UsesOnly stream address old new × Means id (seen stream new) request ended said
+
+-- Shots with ids that count from this one, each of which began where the one before it ended; between them, and behind
+-- the last, nothing was asked of the net.
+abbrev pub AreWired : List ℕ → ℕ → List NetEvent → List NetEvent → List Shot → Type 0
+AreWired address id old new [] = new ≡ old
+AreWired address id old new (s ∷ ss) =
+    (between : List NetEvent) × Wired address (pos id) old between s.request s.stream s.end s.outcome × AreWired address (id + 1) between new ss
+
+-- The shots, with ids that count from 1, are wired from one history to the other; where they are not done, one more may
+-- have been begun behind the last.
+pub record AreWiredTo (address : List ℕ) (old new : List NetEvent) (done : Type 0) (shots : List Shot) : Type 0 where
+  pub last : List NetEvent
+  pub wired : AreWired address 1 old last shots
+  pub all : done → new ≡ last
+
+-- The event is no write.
+abbrev pub is_no_write : NetEvent → Bool
+is_no_write (event.Out stream bytes) = false
+is_no_write _ = true
+
+-- At most one request was sent: either nothing was written, or all that was asked of the net concerned one new stream,
+-- which was closed, and whose bytes out are the request's, the last perhaps cut.
+pub data SendsOnce (request : List ℕ) (old new : List NetEvent) : Type 0 where
+  none : (events : List NetEvent) → Adds events old new → All (λ e. is_no_write e ≡ true) events → SendsOnce request old new
+  on : (stream : ℕ) (address : List ℕ) → IsFresh stream old → UsesOnly stream address old new
+      → IsPrefixOf (seen stream new).out request → SendsOnce request old new
+
+-- Each request was sent at most once, one after another, and nothing else was.
+abbrev pub AreSentOnce : List (List ℕ) → List NetEvent → List NetEvent → Type 0
+AreSentOnce [] old new = new ≡ old
+AreSentOnce (request ∷ requests) old new = (between : List NetEvent) × SendsOnce request old between × AreSentOnce requests between new
+
+-- What the end of a shot says to the user; only an answer says more than its end.
+abbrev pub IsSaid : ShotEnd → Outcome → Type 0
+IsSaid end.Replied said =
+    (said ≢ outcome.Network) × (said ≢ outcome.Late) × ((at : ℕ) → said ≢ outcome.BadReply at) × ((size most : ℕ) → said ≢ outcome.TooLarge size most)
+IsSaid end.Cut said = said ≡ outcome.Network
+IsSaid end.Fault said = said ≡ outcome.Network
+IsSaid end.NoDial said = said ≡ outcome.Network
+IsSaid end.TimedOut said = said ≡ outcome.Late
+IsSaid (end.Bad at) said = said ≡ outcome.BadReply at
+IsSaid end.TooLarge said = (size most : ℕ) × (said ≡ outcome.TooLarge size most)
+
+-- The end is one that only a failed call of the net brings.
+abbrev pub IsFailure : ShotEnd → Type 0
+IsFailure end.Fault = Unit {0}
+IsFailure end.NoDial = Unit {0}
+IsFailure _ = ⊥
+
+-- How long a shot may take, in microseconds.
+-- own: the standard leaves the limit to the driver.
+abbrev pub LIMIT : ℕ
+LIMIT = 30000000
+
+-- What holds of each shot, whether or not the net tells: what its end says; that a failure is the net's, whose faults
+-- were so many before and are so many now; and that the clock showed its moments, a late one past the limit.
+pub record IsShot (shows : ℕ → Type 0) (before now : ℕ) (s : Shot) : Type 0 where
+  pub said : IsSaid s.end s.outcome
+  pub cause : IsFailure s.end → Rose before now
+  pub began : shows s.began
+  pub ended : shows s.ended
+  pub late : s.end ≡ end.TimedOut → s.began + LIMIT ≤ s.ended

@@ -1,0 +1,65 @@
+ghost use Rattle.std.specs.Prelude.{◌≡◌};
+ghost use Rattle.shell_top.specs.Run.{exit_code};
+
+use crate::shot::Shot;
+use bson_doc::Rows;
+use host_name::HostFault;
+use script_text::ScriptFault;
+
+/// How a run ended. The program ends with the status' number.
+#[derive(Debug, Drop)]
+pub enum Status {
+    /// 0: every command's line is ok, and the report was written whole.
+    AllOk,
+    /// 1: the report was written whole, and some line is not ok.
+    SomeFailed,
+    /// 2: the words are refused; nothing was dialled, and the script was not read.
+    Usage(UseFault),
+    /// 3: the script is refused; nothing was dialled.
+    Script(ScriptFault),
+    /// 4: the script could not be read; nothing was dialled.
+    ReadFault,
+    /// 5: the report could not be written whole.
+    WriteFault,
+    /// 6: there was not enough memory.
+    Memory,
+}
+
+/// Why words are refused. The first that applies is told, in this order.
+#[derive(Clone, Copy, Debug, PartialEq, Eq)]
+pub enum UseFault {
+    /// They are not `run HOSTS SET DB`.
+    Words,
+    /// They name several hosts, or a set.
+    Later,
+    /// The host's text is at fault; this is never `HostFault::Memory`.
+    Host(HostFault),
+}
+
+impl Status {
+    /// The number that the program ends with.
+    pub fn code(&self) -> u8
+        ensures { result ≡ exit_code self.now }
+    {
+        match self {
+            Status::AllOk => 0,
+            Status::SomeFailed => 1,
+            Status::Usage(_) => 2,
+            Status::Script(_) => 3,
+            Status::ReadFault => 4,
+            Status::WriteFault => 5,
+            Status::Memory => 6,
+        }
+    }
+}
+
+/// What a run leaves: how it ended, the net, and the shots that it made.
+#[derive(Debug, Drop)]
+pub struct Ended<N> {
+    /// How it ended.
+    pub status: Status,
+    /// The net that was handed in.
+    pub net: N,
+    /// One shot a command, in order.
+    pub shots: Rows<Shot>,
+}

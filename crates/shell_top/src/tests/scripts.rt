@@ -1,7 +1,7 @@
 //! Scripts of several commands, and scripts that are refused or cannot be read.
 
 use super::{FRONT, REPLY, SCRIPT, one_host, source};
-use crate::{Ended, ShotEnd, Status, run};
+use crate::{Ended, Shot, ShotEnd, Status, run};
 use bson_doc::{Bytes, Rows};
 use net_link::{NetEvent, ScriptNet, SliceSource, StreamPlan, TickClock, VecSink};
 use script_text::ScriptKind;
@@ -54,16 +54,38 @@ fn over_plans<R: Wait>(
     Ok(run(rt, alloc, &one_host(alloc)?, &mut source, out, net, &clock))
 }
 
+/// A stream's plan for each id: a reply to it, and for 0 the front of a reply and the end.
+fn plans_of(alloc: Global, ids: &[u8]) -> Result<Rows<StreamPlan>, Fail> {
+    let mut plans = Rows::new(alloc);
+    for id in ids {
+        let plan = if *id == 0 {
+            plan(Bytes::take(alloc, FRONT)?, true)
+        } else {
+            plan(reply_to(alloc, *id)?, false)
+        };
+        plans.push(plan)?;
+    }
+    Ok(plans)
+}
+
+/// Whether the k-th request that went out has the id k, for as many as that.
+fn ids_count(events: &[NetEvent], many: u8) -> bool {
+    let mut id = 0u8;
+    for event in events {
+        if let NetEvent::Out { bytes, .. } = event {
+            id = id.saturating_add(1);
+            if bytes.as_slice().get(4) != Some(&id) {
+                return false;
+            }
+        }
+    }
+    id == many
+}
+
 #[test]
 fn a_wrong_id_and_a_cut_change_their_own_lines_alone(rt: HostRuntime) -> Result<(), Fail> {
     let alloc = rt.alloc();
-    let mut plans = Rows::new(alloc);
-    plans.push(plan(reply_to(alloc, 1)?, false))?;
-    plans.push(plan(reply_to(alloc, 2)?, false))?;
-    plans.push(plan(reply_to(alloc, 9)?, false))?;
-    plans.push(plan(reply_to(alloc, 4)?, false))?;
-    plans.push(plan(Bytes::take(alloc, FRONT)?, true))?;
-    plans.push(plan(reply_to(alloc, 6)?, false))?;
+    let plans = plans_of(alloc, &[1, 2, 9, 4, 0, 6])?;
     let mut out = VecSink::new(alloc, 4096, Rows::new(alloc))?;
     let script = inserts(alloc, 6)?;
     let ended = over_plans(&rt, alloc, script.as_str(), plans, &mut out)?;
@@ -71,14 +93,7 @@ fn a_wrong_id_and_a_cut_change_their_own_lines_alone(rt: HostRuntime) -> Result<
         "1: ok n=1 modified=0 attempts=1\n2: ok n=1 modified=0 attempts=1\n3: bad-reply 8 attempts=1\n4: ok n=1 modified=0 attempts=1\n5: network attempts=1\n6: ok n=1 modified=0 attempts=1\ndone 6 ok 4\n";
     assert_eq!(rt; out.written(), wanted.as_bytes());
     assert_eq!(rt; ended.status.code(), 1);
-    let mut id = 0u8;
-    for event in ended.net.events() {
-        if let NetEvent::Out { bytes, .. } = event {
-            id = id.saturating_add(1);
-            assert_eq!(rt; bytes.as_slice().get(4), Some(&id));
-        }
-    }
-    assert_eq!(rt; id, 6);
+    assert!(rt; ids_count(ended.net.events(), 6));
     Ok(())
 }
 
@@ -93,23 +108,32 @@ fn an_empty_script_is_all_ok(rt: HostRuntime) -> Result<(), Fail> {
     Ok(())
 }
 
-#[test]
-fn a_script_at_fault_dials_nothing(rt: HostRuntime) -> Result<(), Fail> {
-    let alloc = rt.alloc();
-    let mut out = VecSink::new(alloc, 4096, Rows::new(alloc))?;
+/// The line of a script's fault, where its lane is at fault, else 0.
+fn lane_line(status: &Status) -> u32 {
+    match status {
+        Status::Script(fault) if matches!(fault.kind, ScriptKind::Lane) => fault.line,
+        _ => 0,
+    }
+}
+
+/// A script whose second line has a lane of 0.
+fn second_at_fault(alloc: Global) -> Result<String, Fail> {
     let script = format!(in alloc;
         "{SCRIPT}\n{}",
         r#"{"lane":0,"op":"insert","coll":"a","doc":{}}"#
     )?;
-    let mut plans = Rows::new(alloc);
-    plans.push(plan(reply_to(alloc, 1)?, false))?;
+    Ok(script)
+}
+
+#[test]
+fn a_script_at_fault_dials_nothing(rt: HostRuntime) -> Result<(), Fail> {
+    let alloc = rt.alloc();
+    let mut out = VecSink::new(alloc, 4096, Rows::new(alloc))?;
+    let script = second_at_fault(alloc)?;
+    let plans = plans_of(alloc, &[1])?;
     let ended = over_plans(&rt, alloc, script.as_str(), plans, &mut out)?;
     assert_eq!(rt; ended.status.code(), 3);
-    let Status::Script(fault) = ended.status else {
-        return Err(Fail::from("no fault of the script"));
-    };
-    assert_eq!(rt; fault.line, 2);
-    assert!(rt; matches!(fault.kind, ScriptKind::Lane));
+    assert_eq!(rt; lane_line(&ended.status), 2);
     assert_eq!(rt; ended.net.events().len(), 0);
     assert_eq!(rt; out.written().len(), 0);
     Ok(())
@@ -132,11 +156,8 @@ fn a_script_that_cannot_be_read_dials_nothing(rt: HostRuntime) -> Result<(), Fai
     Ok(())
 }
 
-/// An insert of an array of two million zeros, which spells 24,888,903 bytes: each item has six and the digits of its
-/// place, which are 12,888,890 in all; the array adds five, and the document eight.
-#[test]
-fn a_document_past_the_bound_is_not_sent(rt: HostRuntime) -> Result<(), Fail> {
-    let alloc = rt.alloc();
+/// An insert of an array of two million zeros, and the insert of a small document.
+fn large_and_small(alloc: Global) -> Result<String, Fail> {
     let mut script = String::from_str(
         alloc,
         r#"{"lane":1,"op":"insert","coll":"a","doc":{"a":[0"#,
@@ -146,23 +167,40 @@ fn a_document_past_the_bound_is_not_sent(rt: HostRuntime) -> Result<(), Fail> {
     }
     script.push_str("]}}\n")?;
     script.push_str(SCRIPT)?;
-    let mut plans = Rows::new(alloc);
-    plans.push(plan(reply_to(alloc, 2)?, false))?;
+    Ok(script)
+}
+
+/// How many streams were dialled.
+fn dials(events: &[NetEvent]) -> usize {
+    events
+        .iter()
+        .filter(|e| matches!(e, NetEvent::Dialled { .. }))
+        .count()
+}
+
+/// Whether the first shot was too large: it has no stream and no request.
+fn first_is_large(shots: &[Shot]) -> bool {
+    match shots.first() {
+        Some(shot) => {
+            shot.end == ShotEnd::TooLarge && shot.stream.is_none() && shot.request.len() == 0
+        }
+        None => false,
+    }
+}
+
+/// The array of zeros spells 24,888,903 bytes: each item has six and the digits of its place, which are 12,888,890 in
+/// all; the array adds five, and the document eight.
+#[test]
+fn a_document_past_the_bound_is_not_sent(rt: HostRuntime) -> Result<(), Fail> {
+    let alloc = rt.alloc();
+    let script = large_and_small(alloc)?;
+    let plans = plans_of(alloc, &[2])?;
     let mut out = VecSink::new(alloc, 4096, Rows::new(alloc))?;
     let ended = over_plans(&rt, alloc, script.as_str(), plans, &mut out)?;
     let wanted =
         "1: too-large 24888903 16777216 attempts=1\n2: ok n=1 modified=0 attempts=1\ndone 2 ok 1\n";
     assert_eq!(rt; out.written(), wanted.as_bytes());
-    let mut dialled = 0u32;
-    for event in ended.net.events() {
-        if let NetEvent::Dialled { .. } = event {
-            dialled = dialled.saturating_add(1);
-        }
-    }
-    assert_eq!(rt; dialled, 1);
-    let first = ended.shots.as_slice().first().ok_or("no shot")?;
-    assert_eq!(rt; first.end, ShotEnd::TooLarge);
-    assert_eq!(rt; first.stream, None);
-    assert_eq!(rt; first.request.len(), 0);
+    assert_eq!(rt; dials(ended.net.events()), 1);
+    assert!(rt; first_is_large(ended.shots.as_slice()));
     Ok(())
 }

@@ -72,19 +72,6 @@ fn over_script<R: Wait>(
     Ok(run(rt, alloc, words, &mut script, out, net, &clock))
 }
 
-/// How many requests went out, each of which is the worked one, and how many streams were closed.
-fn sent_and_closed(events: &[NetEvent]) -> (usize, usize) {
-    let sent = events
-        .iter()
-        .filter(|e| matches!(e, NetEvent::Out { bytes, .. } if bytes.as_slice() == REQUEST))
-        .count();
-    let closed = events
-        .iter()
-        .filter(|e| matches!(e, NetEvent::Closed { .. }))
-        .count();
-    (sent, closed)
-}
-
 #[test]
 fn the_request_goes_out_whole_and_the_stream_is_closed(rt: HostRuntime) -> Result<(), Fail> {
     let alloc = rt.alloc();
@@ -93,7 +80,22 @@ fn the_request_goes_out_whole_and_the_stream_is_closed(rt: HostRuntime) -> Resul
     let ended = over_script(
         &rt, alloc, &words, REPLY, 4096, false, 0, 1_000_000, &mut out,
     )?;
-    assert_eq!(rt; sent_and_closed(ended.net.events()), (1, 1));
+    let mut sent = 0u32;
+    let mut closed = 0u32;
+    for event in ended.net.events() {
+        match event {
+            NetEvent::Dialled { address, .. } => {
+                assert_eq!(rt; address.as_str(), "127.0.0.1:27017");
+            }
+            NetEvent::Out { bytes, .. } => {
+                assert_eq!(rt; bytes.as_slice(), REQUEST);
+                sent = sent.saturating_add(1);
+            }
+            NetEvent::Closed { .. } => closed = closed.saturating_add(1),
+            _ => {}
+        }
+    }
+    assert_eq!(rt; (sent, closed), (1, 1));
     Ok(())
 }
 
@@ -105,46 +107,43 @@ fn use_fault(status: &Status) -> Option<UseFault> {
     }
 }
 
-/// What comes of a run with words that are parted by bars: the fault, and that nothing was dialled or written.
-fn refused<R: Wait>(rt: &R, alloc: Global, line: &str) -> Result<Option<UseFault>, Fail> {
-    let mut words = Rows::new(alloc);
-    for word in line.split('|') {
-        words.push(Text::take(alloc, word)?)?;
-    }
-    let mut out = VecSink::new(alloc, 4096, Rows::new(alloc))?;
-    let ended = over_script(
-        rt, alloc, &words, REPLY, 4096, false, 0, 1_000_000, &mut out,
-    )?;
-    if !ended.net.events().is_empty() || !out.written().is_empty() {
-        return Ok(None);
-    }
-    Ok(use_fault(&ended.status))
-}
-
-/// Words that are parted by bars, and the fault for which they are refused.
-static REFUSED: [(&str, UseFault); 15] = [
-    ("insert|h:1|d|c|1", UseFault::Words),
-    ("run|h:1|-", UseFault::Words),
-    ("run|h:1|-|d|e", UseFault::Words),
-    ("Run|h:1|-|d", UseFault::Words),
-    ("--help", UseFault::Words),
-    ("run|h:1||d", UseFault::Words),
-    ("run|h:1|-|", UseFault::Words),
-    ("run|h:1|-|d\0", UseFault::Words),
-    ("run|h:1,i:1||d", UseFault::Words),
-    ("run|h:1,i:1|-|d", UseFault::Later),
-    ("run|h:1|rs0|d", UseFault::Later),
-    ("run|h:0,|-|d", UseFault::Later),
-    ("run||-|d", UseFault::Host(HostFault::Empty)),
-    ("run|h:70000|-|d", UseFault::Host(HostFault::Port)),
-    ("run|[::1|-|d", UseFault::Host(HostFault::Bracket)),
-];
-
 #[test]
 fn words_that_are_refused_dial_nothing(rt: HostRuntime) -> Result<(), Fail> {
-    for (line, fault) in &REFUSED {
-        let told = refused(&rt, rt.alloc(), line)?;
-        assert_eq!(rt; told, Some(*fault), "{line}");
+    let alloc = rt.alloc();
+    let refused: [(&[&str], UseFault); 16] = [
+        (&[], UseFault::Words),
+        (&["insert", "h:1", "d", "c", "1"], UseFault::Words),
+        (&["run", "h:1", "-"], UseFault::Words),
+        (&["run", "h:1", "-", "d", "e"], UseFault::Words),
+        (&["Run", "h:1", "-", "d"], UseFault::Words),
+        (&["--help"], UseFault::Words),
+        (&["run", "h:1", "", "d"], UseFault::Words),
+        (&["run", "h:1", "-", ""], UseFault::Words),
+        (&["run", "h:1", "-", "d\0"], UseFault::Words),
+        (&["run", "h:1,i:1", "", "d"], UseFault::Words),
+        (&["run", "h:1,i:1", "-", "d"], UseFault::Later),
+        (&["run", "h:1", "rs0", "d"], UseFault::Later),
+        (&["run", "h:0,", "-", "d"], UseFault::Later),
+        (&["run", "", "-", "d"], UseFault::Host(HostFault::Empty)),
+        (
+            &["run", "h:70000", "-", "d"],
+            UseFault::Host(HostFault::Port),
+        ),
+        (
+            &["run", "[::1", "-", "d"],
+            UseFault::Host(HostFault::Bracket),
+        ),
+    ];
+    for (all, fault) in refused {
+        let mut out = VecSink::new(alloc, 4096, Rows::new(alloc))?;
+        let words = words(alloc, all)?;
+        let ended = over_script(
+            &rt, alloc, &words, REPLY, 4096, false, 0, 1_000_000, &mut out,
+        )?;
+        assert_eq!(rt; use_fault(&ended.status), Some(fault), "{all:?}");
+        assert_eq!(rt; ended.status.code(), 2);
+        assert_eq!(rt; ended.net.events().len(), 0, "{all:?}");
+        assert_eq!(rt; out.written().len(), 0, "{all:?}");
     }
     Ok(())
 }

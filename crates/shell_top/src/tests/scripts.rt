@@ -1,10 +1,9 @@
 //! Scripts of several commands, and scripts that are refused or cannot be read.
 
 use super::{FRONT, REPLY, SCRIPT, one_host, source};
-use crate::{Ended, Shot, ShotEnd, Status, run};
+use crate::{Ended, ShotEnd, run};
 use bson_doc::{Bytes, Rows};
 use net_link::{NetEvent, ScriptNet, SliceSource, StreamPlan, TickClock, VecSink};
-use script_text::ScriptKind;
 use std::alloc::Global;
 use std::sync::Wait;
 use std::test::Fail;
@@ -54,38 +53,16 @@ fn over_plans<R: Wait>(
     Ok(run(rt, alloc, &one_host(alloc)?, &mut source, out, net, &clock))
 }
 
-/// A stream's plan for each id: a reply to it, and for 0 the front of a reply and the end.
-fn plans_of(alloc: Global, ids: &[u8]) -> Result<Rows<StreamPlan>, Fail> {
-    let mut plans = Rows::new(alloc);
-    for id in ids {
-        let plan = if *id == 0 {
-            plan(Bytes::take(alloc, FRONT)?, true)
-        } else {
-            plan(reply_to(alloc, *id)?, false)
-        };
-        plans.push(plan)?;
-    }
-    Ok(plans)
-}
-
-/// Whether the k-th request that went out has the id k, for as many as that.
-fn ids_count(events: &[NetEvent], many: u8) -> bool {
-    let mut id = 0u8;
-    for event in events {
-        if let NetEvent::Out { bytes, .. } = event {
-            id = id.saturating_add(1);
-            if bytes.as_slice().get(4) != Some(&id) {
-                return false;
-            }
-        }
-    }
-    id == many
-}
-
 #[test]
 fn a_wrong_id_and_a_cut_change_their_own_lines_alone(rt: HostRuntime) -> Result<(), Fail> {
     let alloc = rt.alloc();
-    let plans = plans_of(alloc, &[1, 2, 9, 4, 0, 6])?;
+    let mut plans = Rows::new(alloc);
+    plans.push(plan(reply_to(alloc, 1)?, false))?;
+    plans.push(plan(reply_to(alloc, 2)?, false))?;
+    plans.push(plan(reply_to(alloc, 9)?, false))?;
+    plans.push(plan(reply_to(alloc, 4)?, false))?;
+    plans.push(plan(Bytes::take(alloc, FRONT)?, true))?;
+    plans.push(plan(reply_to(alloc, 6)?, false))?;
     let mut out = VecSink::new(alloc, 4096, Rows::new(alloc))?;
     let script = inserts(alloc, 6)?;
     let ended = over_plans(&rt, alloc, script.as_str(), plans, &mut out)?;
@@ -93,7 +70,14 @@ fn a_wrong_id_and_a_cut_change_their_own_lines_alone(rt: HostRuntime) -> Result<
         "1: ok n=1 modified=0 attempts=1\n2: ok n=1 modified=0 attempts=1\n3: bad-reply 8 attempts=1\n4: ok n=1 modified=0 attempts=1\n5: network attempts=1\n6: ok n=1 modified=0 attempts=1\ndone 6 ok 4\n";
     assert_eq!(rt; out.written(), wanted.as_bytes());
     assert_eq!(rt; ended.status.code(), 1);
-    assert!(rt; ids_count(ended.net.events(), 6));
+    let mut id = 0u8;
+    for event in ended.net.events() {
+        if let NetEvent::Out { bytes, .. } = event {
+            id = id.saturating_add(1);
+            assert_eq!(rt; bytes.as_slice().get(4), Some(&id));
+        }
+    }
+    assert_eq!(rt; id, 6);
     Ok(())
 }
 
@@ -105,37 +89,6 @@ fn an_empty_script_is_all_ok(rt: HostRuntime) -> Result<(), Fail> {
     assert_eq!(rt; out.written(), b"done 0 ok 0\n".as_slice());
     assert_eq!(rt; ended.status.code(), 0);
     assert_eq!(rt; ended.net.events().len(), 0);
-    Ok(())
-}
-
-/// The line of a script's fault, where its lane is at fault, else 0.
-fn lane_line(status: &Status) -> u32 {
-    match status {
-        Status::Script(fault) if matches!(fault.kind, ScriptKind::Lane) => fault.line,
-        _ => 0,
-    }
-}
-
-/// A script whose second line has a lane of 0.
-fn second_at_fault(alloc: Global) -> Result<String, Fail> {
-    let script = format!(in alloc;
-        "{SCRIPT}\n{}",
-        r#"{"lane":0,"op":"insert","coll":"a","doc":{}}"#
-    )?;
-    Ok(script)
-}
-
-#[test]
-fn a_script_at_fault_dials_nothing(rt: HostRuntime) -> Result<(), Fail> {
-    let alloc = rt.alloc();
-    let mut out = VecSink::new(alloc, 4096, Rows::new(alloc))?;
-    let script = second_at_fault(alloc)?;
-    let plans = plans_of(alloc, &[1])?;
-    let ended = over_plans(&rt, alloc, script.as_str(), plans, &mut out)?;
-    assert_eq!(rt; ended.status.code(), 3);
-    assert_eq!(rt; lane_line(&ended.status), 2);
-    assert_eq!(rt; ended.net.events().len(), 0);
-    assert_eq!(rt; out.written().len(), 0);
     Ok(())
 }
 
@@ -156,8 +109,11 @@ fn a_script_that_cannot_be_read_dials_nothing(rt: HostRuntime) -> Result<(), Fai
     Ok(())
 }
 
-/// An insert of an array of two million zeros, and the insert of a small document.
-fn large_and_small(alloc: Global) -> Result<String, Fail> {
+/// An insert of an array of two million zeros, which spells 24,888,903 bytes: each item has six and the digits of its
+/// place, which are 12,888,890 in all; the array adds five, and the document eight.
+#[test]
+fn a_document_past_the_bound_is_not_sent(rt: HostRuntime) -> Result<(), Fail> {
+    let alloc = rt.alloc();
     let mut script = String::from_str(
         alloc,
         r#"{"lane":1,"op":"insert","coll":"a","doc":{"a":[0"#,
@@ -167,40 +123,23 @@ fn large_and_small(alloc: Global) -> Result<String, Fail> {
     }
     script.push_str("]}}\n")?;
     script.push_str(SCRIPT)?;
-    Ok(script)
-}
-
-/// How many streams were dialled.
-fn dials(events: &[NetEvent]) -> usize {
-    events
-        .iter()
-        .filter(|e| matches!(e, NetEvent::Dialled { .. }))
-        .count()
-}
-
-/// Whether the first shot was too large: it has no stream and no request.
-fn first_is_large(shots: &[Shot]) -> bool {
-    match shots.first() {
-        Some(shot) => {
-            shot.end == ShotEnd::TooLarge && shot.stream.is_none() && shot.request.len() == 0
-        }
-        None => false,
-    }
-}
-
-/// The array of zeros spells 24,888,903 bytes: each item has six and the digits of its place, which are 12,888,890 in
-/// all; the array adds five, and the document eight.
-#[test]
-fn a_document_past_the_bound_is_not_sent(rt: HostRuntime) -> Result<(), Fail> {
-    let alloc = rt.alloc();
-    let script = large_and_small(alloc)?;
-    let plans = plans_of(alloc, &[2])?;
+    let mut plans = Rows::new(alloc);
+    plans.push(plan(reply_to(alloc, 2)?, false))?;
     let mut out = VecSink::new(alloc, 4096, Rows::new(alloc))?;
     let ended = over_plans(&rt, alloc, script.as_str(), plans, &mut out)?;
     let wanted =
         "1: too-large 24888903 16777216 attempts=1\n2: ok n=1 modified=0 attempts=1\ndone 2 ok 1\n";
     assert_eq!(rt; out.written(), wanted.as_bytes());
-    assert_eq!(rt; dials(ended.net.events()), 1);
-    assert!(rt; first_is_large(ended.shots.as_slice()));
+    let mut dialled = 0u32;
+    for event in ended.net.events() {
+        if let NetEvent::Dialled { .. } = event {
+            dialled = dialled.saturating_add(1);
+        }
+    }
+    assert_eq!(rt; dialled, 1);
+    let first = ended.shots.as_slice().first().ok_or("no shot")?;
+    assert_eq!(rt; first.end, ShotEnd::TooLarge);
+    assert_eq!(rt; first.stream, None);
+    assert_eq!(rt; first.request.len(), 0);
     Ok(())
 }

@@ -1,7 +1,8 @@
 -- What is read off a document: its depth, the value of a name, whether a value is one (bsonspec 1.1, document).
-use Rattle.std.specs.Prelude.{◌≡◌, ℕ, ◌+◌, ◌==◌, ◌⊎◌, max, pos, List, [], ◌∷◌, Option, find}
+use Rattle.std.specs.Prelude.{ℕ, ◌+◌, ◌==◌, max, pos, Bool, false, List, [], ◌∷◌, Option, find}
 use Rattle.std.specs.Option.{option_map}
 use Rattle.std.specs.Cmp.Lexicographic.{pointwise}
+use Rattle.std.specs.Ordering.{int_eq}
 use Rattle.bson_doc.specs.declared.name.Name.{Name}
 use Rattle.bson_doc.specs.declared.value.Document.{Document, Document-F, fold-Document}
 use Rattle.bson_doc.specs.declared.value.Value.{Value, Value-F, fold-Value}
@@ -32,11 +33,17 @@ depth_of = fold-Document ℕ ℕ value_step document_step
 abbrev pub depth_inside : Value → ℕ
 depth_inside = fold-Value ℕ ℕ value_step document_step
 
--- The first value of that name. Names are compared byte by byte: `pointwise ◌==◌` holds of two texts of equal length with
--- equal bytes.
+-- Texts are equal byte by byte: they have one length, and the same byte at each place.
+abbrev pub is_text : List ℕ → List ℕ → Bool
+is_text text other = pointwise ◌==◌ text other
+
+-- The first value of that name.
 abbrev pub value_of : List ℕ → List (Name × Value) → Option Value
-value_of name es = option_map (λ e. e.1) (find (λ e. pointwise ◌==◌ e.0 name) es)
+value_of name es = option_map (λ e. e.1) (find (λ e. is_text e.0 name) es)
 
 -- The value is the number one (own, as servers say `ok`): an int32 or int64 of 1 or the double 1.0.
-abbrev pub IsOne : Value → Type 0
-IsOne v = (v ≡ Int32 (pos 1)) ⊎ (v ≡ Int64 (pos 1)) ⊎ (v ≡ Double (0 ∷ 0 ∷ 0 ∷ 0 ∷ 0 ∷ 0 ∷ 0xf0 ∷ 0x3f ∷ []))
+abbrev pub is_one : Value → Bool
+is_one (Int32 n) = int_eq n (pos 1)
+is_one (Int64 n) = int_eq n (pos 1)
+is_one (Double raw) = is_text raw (0 ∷ 0 ∷ 0 ∷ 0 ∷ 0 ∷ 0 ∷ 0xf0 ∷ 0x3f ∷ [])
+is_one _ = false

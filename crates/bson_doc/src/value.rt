@@ -1,5 +1,5 @@
-ghost use Rattle.std.specs.Prelude.{IsTrue, ◌↔◌};
-ghost use Rattle.bson_doc.specs.Documents.{IsOne};
+ghost use Rattle.std.specs.Prelude.{◌≡◌};
+ghost use Rattle.bson_doc.specs.Documents.{is_one as one};
 
 use crate::{Bytes, Name, Oid, Rows, Text};
 
@@ -83,7 +83,7 @@ pub struct Document {
 
 /// Whether the value is the number one, as servers say `ok`: an int32 or int64 of 1 or the double 1.0.
 pub fn is_one(value: &Value) -> bool
-    ensures { IsTrue result ↔ IsOne value.now }
+    ensures { result ≡ one value.now }
 {
     match value {
         Value::Int32(n) => *n == 1,

@@ -1,9 +1,7 @@
 -- What kind of server a reply comes from (SDAM, Parsing a hello response, type).
-use Rattle.std.specs.Prelude.{ℕ, pos, Bool, false, ◌==◌, List, [], ◌∷◌, is_some, codes, if◌then◌else◌}
-use Rattle.std.specs.Cmp.Lexicographic.{pointwise}
-use Rattle.std.specs.Ordering.{int_eq}
+use Rattle.std.specs.Prelude.{ℕ, Bool, false, List, is_some, codes, if◌then◌else◌}
 use Rattle.std.specs.Option.{option_map_or}
-use Rattle.bson_doc.specs.Documents.{value_of}
+use Rattle.bson_doc.specs.Documents.{is_one, is_text, value_of}
 use Rattle.bson_doc.specs.declared.name.Name.{Name}
 use Rattle.bson_doc.specs.declared.value.Value.{Value}
 use Rattle.bson_doc.specs.declared.value.Value.TheVariants as value
@@ -11,13 +9,6 @@ use Rattle.hello_reply.specs.Fields.{given}
 use Rattle.hello_reply.specs.declared.field_name.FieldName.TheVariants as field
 use Rattle.hello_reply.specs.declared.server_kind.ServerKind.{ServerKind}
 use Rattle.hello_reply.specs.declared.server_kind.ServerKind.TheVariants as kind
-
--- The value is the number one: an int32 or int64 of 1 or the double 1.0.
-abbrev pub is_one : Value → Bool
-is_one (value.Int32 n) = int_eq n (pos 1)
-is_one (value.Int64 n) = int_eq n (pos 1)
-is_one (value.Double raw) = pointwise ◌==◌ raw (0 ∷ 0 ∷ 0 ∷ 0 ∷ 0 ∷ 0 ∷ 0xf0 ∷ 0x3f ∷ [])
-is_one _ = false
 
 -- The reply says that hello succeeded: its ok is one.
 abbrev pub is_ok : List (Name × Value) → Bool
@@ -33,13 +24,13 @@ abbrev pub says : List ℕ → List (Name × Value) → Bool
 says name es = option_map_or is_true (value_of name es) false
 
 -- The value is that string.
-abbrev pub is_text : List ℕ → Value → Bool
-is_text text (value.Str found) = pointwise ◌==◌ found text
-is_text text _ = false
+abbrev pub is_string : List ℕ → Value → Bool
+is_string text (value.Str found) = is_text found text
+is_string text _ = false
 
 -- The reply is a router's: its msg is "isdbgrid".
 abbrev pub is_router : List (Name × Value) → Bool
-is_router es = option_map_or (is_text (codes "isdbgrid")) (value_of (codes "msg") es) false
+is_router es = option_map_or (is_string (codes "isdbgrid")) (value_of (codes "msg") es) false
 
 -- A member of a replica set. A hidden one counts as Other, whatever else it is (SDAM: hidden members are RSOther).
 abbrev pub member_kind : List (Name × Value) → ServerKind

@@ -1,10 +1,10 @@
 -- What one line of a script says (own): the table of its members, and the order of its faults.
 use Rattle.std.specs.Prelude.{◌≡◌, ℕ, ◌&&◌, ◌||◌, ◌==◌, List, length, Bool, true, false, Option, Some, None, Result, Ok, Err, nat_le, if◌then◌else◌, is_some, option_map, option_and_then, codes, position}
-use Rattle.std.specs.Cmp.Lexicographic.{pointwise}
 use Rattle.std.specs.Str.{is_utf8}
 use Rattle.serde_json.specs.Data.{Num, unsigned, negative, float, Data, object, Members, no_members, member}
 use Rattle.serde_json.specs.Find.{get, as_number, as_str, as_object, is_float}
 use Rattle.serde_json.specs.Read.{read}
+use Rattle.bson_doc.specs.Documents.{is_text}
 use Rattle.bson_doc.specs.declared.value.Document.{Document}
 use Rattle.bson_text.specs.declared.fault.TextFault.{TextFault}
 use Rattle.bson_text.specs.declared.fault.TextFault.TheVariants as fault
@@ -15,10 +15,6 @@ use Rattle.script_text.specs.declared.fault.ScriptKind.{ScriptKind}
 use Rattle.script_text.specs.declared.fault.ScriptKind.TheVariants as kind
 use Rattle.script_text.specs.declared.stop.LineStop.{LineStop}
 use Rattle.script_text.specs.declared.stop.LineStop.TheVariants as stop
-
--- Texts are equal byte by byte.
-abbrev pub is_text : List ℕ → List ℕ → Bool
-is_text name other = pointwise ◌==◌ name other
 
 -- The members that an insert has.
 unfoldable pub is_known : List ℕ → Bool

@@ -1,7 +1,7 @@
 -- What the reply to an insert says (MongoDB, Database Command Response; CRUD and Retryable Writes specifications).
-use Rattle.std.specs.Prelude.{◌≡◌, ℕ, ℤ, List, [], ◌∷◌, Option, Some, pos, codes, Bool, true, false, is_some, IsSomeAnd}
+use Rattle.std.specs.Prelude.{◌≡◌, ℕ, ℤ, List, [], ◌∷◌, Option, Some, pos, codes, Bool, true, false, is_some, IsSomeAnd, IsTrue}
 use Rattle.std.specs.List.{list_any}
-use Rattle.bson_doc.specs.Documents.{IsOne, value_of}
+use Rattle.bson_doc.specs.Documents.{is_one, value_of}
 use Rattle.bson_doc.specs.declared.value.Document.{Document}
 use Rattle.bson_doc.specs.declared.value.Value.{Value}
 use Rattle.bson_doc.specs.declared.value.Value.TheVariants as value
@@ -25,7 +25,7 @@ count_in _ = pos 0
 
 -- The command was carried out: its `ok` is one.
 abbrev pub IsOk : Document → Type 0
-IsOk reply = IsSomeAnd (field (codes "ok") reply) IsOne
+IsOk reply = IsSomeAnd (field (codes "ok") reply) (λ v. IsTrue (is_one v))
 
 -- The fields of a reply that are not read yet.
 -- own: what they say of a write is not told as a success.

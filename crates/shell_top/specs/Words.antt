@@ -1,6 +1,6 @@
 -- What the words of a command line ask for.
 use Rattle.std.specs.Prelude.{◌≡◌, ℕ, ◌==◌, ◌&&◌, ◌||◌, not, List, [], ◌∷◌, ◌++◌, length, codes, decimal, Bool, Result, Ok, Err, if◌then◌else◌, nat_le, is_some, position}
-use Rattle.std.specs.Cmp.Lexicographic.{pointwise}
+use Rattle.bson_doc.specs.Documents.{is_text}
 use Rattle.host_name.specs.Addresses.{Address}
 use Rattle.host_name.specs.Grammar.{is_in}
 use Rattle.host_name.specs.Reading.{reading}
@@ -12,10 +12,6 @@ use Rattle.shell_top.specs.declared.status.UseFault.TheVariants as fault
 pub record Asked : Type 0 where
   pub host : Address
   pub db : List ℕ
-
--- Texts are equal byte by byte.
-abbrev pub is_text : List ℕ → List ℕ → Bool
-is_text word other = pointwise ◌==◌ word other
 
 -- No word is longer than this.
 -- own: the standard has no limit.

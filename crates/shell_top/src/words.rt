@@ -1,6 +1,7 @@
 ghost use Rattle.std.specs.Prelude.{◌≡◌, ◌==◌, ◌≤◌, Ok, codes, nat_le, is_some, length, position, not, ◌&&◌, IfOk, IfErr};
 ghost use Rattle.host_name.specs.Grammar.{is_in};
-ghost use Rattle.shell_top.specs.Words.{are_in_form, asks, asks_of, is_later, is_name, is_short, is_text};
+ghost use Rattle.shell_top.specs.Words.{are_in_form, asks, asks_of, is_later, is_name, is_short};
+ghost use Rattle.bson_doc.specs.Documents.{is_text};
 ghost use Rattle.shell_top.specs.Asking.{Stops};
 
 use crate::status::UseFault;

@@ -1,8 +1,9 @@
 //! The program `topo_bench`: how long `topo_rules` takes to take in a primary's reply.
 //!
-//! `topo_bench HOSTS ROUNDS` makes a topology of that many hosts, takes in the reply of a primary that lists all of them
-//! ROUNDS times, and prints the nanoseconds that one took in the quickest of five batches. It is a measuring instrument
-//! and carries no claim; `scripts/bench` runs it.
+//! `topo_bench HOSTS ROUNDS` makes a topology of that many hosts, lets each but the first answer as a secondary that lists
+//! all of them, takes in the reply of the first as a primary that lists all of them ROUNDS times, and prints the
+//! nanoseconds that one of these took in the quickest of five batches. It is a measuring instrument and carries no claim;
+//! `scripts/bench` runs it.
 //!
 //! It ends with 0, with 2 where the words are not in form, and with 1 where memory or the clock fails.
 #![tactic(auto)]
@@ -55,10 +56,14 @@ fn measure(rt: &HostRuntime) -> Result<(), Trouble> {
     if hosts.len() > MOST_HOSTS as usize {
         return Err(Trouble::Words);
     }
-    let event = reply(rt.alloc(), hosts.as_slice()).ok_or(Trouble::Memory)?;
     let Ok(mut topology) = Topology::start(rt.alloc(), hosts.as_slice(), Some("rs"), false) else {
         return Err(Trouble::Memory);
     };
+    take_members_in(rt.alloc(), &mut topology, hosts.as_slice()).ok_or(Trouble::Memory)?;
+    let first = hosts.as_slice().first().ok_or(Trouble::Words)?;
+    let event = reply(rt.alloc(), first, ServerKind::Primary, hosts.as_slice()).ok_or(
+        Trouble::Memory,
+    )?;
     let mut best = u64::MAX;
     for _ in 0..BATCHES {
         let start = Instant::now(rt).map_err(|_| Trouble::Clock)?;
@@ -98,11 +103,10 @@ fn hosts(alloc: Global, count: u32) -> Option<Rows<Host>>
     Some(hosts)
 }
 
-/// The reply of the first host as a primary that lists all.
-fn reply(alloc: Global, hosts: &[Host]) -> Option<TopoEvent> {
-    let first = hosts.first()?;
-    let mut description: ServerDescription = default_unknown(alloc, first).ok()?;
-    description.kind = ServerKind::Primary;
+/// The reply of a host as a member of this kind that lists all.
+fn reply(alloc: Global, host: &Host, kind: ServerKind, hosts: &[Host]) -> Option<TopoEvent> {
+    let mut description: ServerDescription = default_unknown(alloc, host).ok()?;
+    description.kind = kind;
     description.set_name = Some(Text::take(alloc, "rs").ok()?);
     let mut listed = Rows::new(alloc);
     for host in hosts {
@@ -113,6 +117,15 @@ fn reply(alloc: Global, hosts: &[Host]) -> Option<TopoEvent> {
         description,
         sample: 1_000,
     })
+}
+
+/// Takes in the replies of all hosts but the first, as secondaries that list all.
+fn take_members_in(alloc: Global, topology: &mut Topology, hosts: &[Host]) -> Option<()> {
+    for host in hosts.iter().skip(1) {
+        let event = reply(alloc, host, ServerKind::Secondary, hosts)?;
+        take_in(alloc, topology, &event)?;
+    }
+    Some(())
 }
 
 /// Takes the event in, where its host is in the topology.

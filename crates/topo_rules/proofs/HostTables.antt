@@ -1,5 +1,5 @@
 -- The map that a table of hosts stands for, and when its entries stand in order.
-use Rattle.std.proofs.Common.{◌≡◌, ℕ, ◌+◌, Bool, true, false, cond, List, [], ◌∷◌, map, Option, None, Some, refl, sym, ap, subst, ◌∙◌, T, slice_get, option_map, length}
+use Rattle.std.proofs.Common.{◌≡◌, ℕ, Bool, cond, List, [], ◌∷◌, map, Option, None, Some, refl, sym, ap, subst, ◌∙◌, T, slice_get, option_map, length}
 use Rattle.std.proofs.lemmas.List.{length-map}
 use Rattle.std.proofs.lemmas.Option.{slice_get-map}
 use Rattle.std.specs.Arc.{arc_value}

@@ -1,3 +1,4 @@
+pub mod AlikeLemmas
 pub mod HostOrder
 pub mod HostTables
 pub mod Lists

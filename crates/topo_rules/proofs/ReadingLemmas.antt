@@ -1,7 +1,5 @@
 -- What is read off shared descriptions is what is read off the descriptions.
-use Rattle.std.proofs.Common.{◌≡◌, ℤ, Bool, true, false, cond, ◌||◌, List, [], ◌∷◌, map, filter, fold, find, Option, None, Some, refl, ap, ◌∙◌, option_map}
-use Rattle.std.specs.Arc.{arc_value}
-use Rattle.std.specs.declared.sync.Arc.{Arc}
+use Rattle.std.proofs.Common.{◌≡◌, ℤ, Bool, true, false, cond, ◌||◌, List, [], ◌∷◌, map, filter, fold, find, Option, None, Some, refl, ap, option_map}
 use Rattle.std.specs.List.{list_any}
 use Rattle.std.specs.Option.{unwrap_or}
 use Rattle.hello_reply.specs.declared.server_description.ServerDescription.{ServerDescription}

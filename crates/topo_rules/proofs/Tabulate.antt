@@ -1,5 +1,5 @@
 -- Maps made by what is said of each host of a list.
-use Rattle.std.proofs.Common.{◌≡◌, ℕ, ◌+◌, ◌<◌, ◌≤◌, Bool, true, false, cond, ◌||◌, List, [], ◌∷◌, ◌++◌, map, Option, None, Some, is_some, refl, sym, ap, subst, ◌∙◌, arith, append_assoc, append-nil, length, slice_get, take, take_all, true≢false, get_or, option_map, T, zero, suc}
+use Rattle.std.proofs.Common.{◌≡◌, ℕ, ◌+◌, ◌<◌, ◌≤◌, Bool, true, false, cond, ◌||◌, List, [], ◌∷◌, ◌++◌, map, Option, None, Some, is_some, refl, sym, ap, subst, ◌∙◌, arith, append_assoc, append-nil, length, slice_get, take, take_all, true≢false, get_or, option_map, T}
 use Rattle.std.proofs.lemmas.Cmp.{eq_by_cmp_equiv}
 use Rattle.std.proofs.lemmas.List.{get_or-map, take_more}
 use Rattle.std.proofs.lemmas.Map.Entries.{lookup_from_place, length-keys_of}
@@ -96,7 +96,7 @@ lookup-find_by_order q [] = refl
 lookup-find_by_order q (e ∷ es) = ap (cond (eq_by_cmp address_cmp q e.0) (Some e.1)) (lookup-find_by_order q es)
 
 -- what stands at a place is what the map says of its host
-get_at : (m : ServerMap) (i : ℕ) (e : Address × ServerDescription) → slice_get (map.entries m) i ≡ Some e → map.get m e.0 ≡ Some e.1
+pub get_at : (m : ServerMap) (i : ℕ) (e : Address × ServerDescription) → slice_get (map.entries m) i ≡ Some e → map.get m e.0 ≡ Some e.1
 get_at m i e at =
     map.get-entries m e.0 ∙ sym (lookup-find_by_order e.0 (map.entries m))
     ∙ lookup_from_place (eq_by_cmp_equiv host_total) (map.entries m) i e.0 e.1 (distinct_keys address_cmp is_same_address host_total host_same host_ties (map.entries m) (map.entries_sorted m)) at

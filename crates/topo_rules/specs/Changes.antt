@@ -51,6 +51,11 @@ meanless d = record d { mean = None }
 abbrev pub plain : ServerMap → List (Address × ServerDescription)
 plain m = map (λ e. (e.0, meanless e.1)) (map.entries m)
 
+-- Of each host but one: where both maps give it one kind, both say the same of it. The maps before and behind an event of
+-- that one host are so: another host it leaves alone, adds, removes, or makes a default Unknown that was a primary.
+pub record AlikeBeside (host : Address) (old new : ServerMap) : Type 0 where
+  pub alike : (x : Address) (d e : ServerDescription) → (x ≡ host → ⊥) → map.get old x ≡ Some d → map.get new x ≡ Some e → d.kind ≡ e.kind → d ≡ e
+
 -- The two topologies are the same but for means: kind, set name, maxima, hosts and descriptions (SDAM, TopologyDescription
 -- equality; own: the maxima count too).
 pub record SameButMeans (old new : Topology) : Type 0 where

@@ -1,5 +1,5 @@
 -- What a kind of server says of it (SDAM, ServerType).
-use Rattle.std.specs.Prelude.{Bool, true, false, ◌&&◌}
+use Rattle.std.specs.Prelude.{Bool, true, false}
 use Rattle.hello_reply.specs.declared.server_description.ServerDescription.{ServerDescription}
 use Rattle.hello_reply.specs.declared.server_kind.ServerKind.{ServerKind}
 use Rattle.hello_reply.specs.declared.server_kind.ServerKind.TheVariants as server

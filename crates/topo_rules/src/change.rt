@@ -23,22 +23,24 @@ pub struct Change {
 }
 
 impl Change {
-    ghost use Rattle.topo_rules.specs.Changes.{IsChange};
+    ghost use Rattle.topo_rules.specs.Changes.{AlikeBeside, IsChange};
+    ghost use Rattle.topo_rules.specs.Rules.{event_host};
 
-    /// What the event changed between the two topologies.
+    /// What the event changed between the two topologies, which lie before and behind it.
     pub(crate) fn between(
         alloc: Global,
         old: &Topology,
         event: &TopoEvent,
         new: &Topology,
     ) -> Result<Change, Memory>
+        requires { AlikeBeside (event_host event.now) old.now.servers new.now.servers }
         ensures { IfOk result (IsChange old.now event.now new.now) }
     {
         let added = new.servers.hosts_beyond(alloc, &old.servers)?;
         let removed = old.servers.hosts_beyond(alloc, &new.servers)?;
         let ready = ready_host(alloc, event, new)?;
         let clear = cleared_host(alloc, event, new)?;
-        let same = is_same(old, new);
+        let same = is_same(old, new, event.host());
         Ok(Change {
             added,
             removed,

@@ -3,7 +3,7 @@ ghost use Rattle.std.specs.Option.{option_map_or};
 ghost use Rattle.std.specs.FinMap as map;
 ghost use Rattle.std.specs.Arc.{arc_value};
 ghost use Rattle.hello_reply.specs.Descriptions.{unknown as default_unknown_of};
-ghost use Rattle.topo_rules.specs.Changes.{hosts_beyond, plain};
+ghost use Rattle.topo_rules.specs.Changes.{AlikeBeside, hosts_beyond, meanless, plain};
 ghost use Rattle.topo_rules.specs.Maps.{kept_mean, tabulate, known_or_new, joined, under, reign, has_primary};
 ghost use Rattle.topo_rules.specs.Readings.{misfit_of, session_minutes_of};
 ghost use Rattle.topo_rules.specs.Seen.{seen};
@@ -259,30 +259,50 @@ impl Servers {
     }
 
     /// Whether the two have the same host at a place and know the same of it, means aside.
-    fn is_same_at(&self, other: &Servers, place: usize) -> bool
+    fn is_same_at(&self, other: &Servers, changed: &Host, place: usize) -> bool
+        requires { AlikeBeside changed.now self.now other.now }
         ensures { IsTrue result ↔ (slice_get (plain self.now) place ≡ slice_get (plain other.now) place) }
     {
         match (self.entry_at(place), other.entry_at(place)) {
             (None, None) => true,
             (Some((host, description)), Some((other_host, other_description))) => {
-                *host == *other_host && is_same_but_mean(description, other_description)
+                *host == *other_host && is_same_of(host, changed, description, other_description)
             }
             _ => false,
         }
     }
 
-    /// Whether the two have the same hosts and know the same of each, means aside.
-    pub fn is_same(&self, other: &Servers) -> bool
+    /// Whether the two have the same hosts and know the same of each, means aside. The two lie before and behind an event
+    /// of the host that is given.
+    pub fn is_same(&self, other: &Servers, changed: &Host) -> bool
+        requires { AlikeBeside changed.now self.now other.now }
         ensures { IsTrue result ↔ (plain self.now ≡ plain other.now) }
     {
         if self.len() != other.len() {
             return false;
         }
         for place in 0..self.len() {
-            if !self.is_same_at(other, place) {
+            if !self.is_same_at(other, changed, place) {
                 return false;
             }
         }
         true
     }
+}
+
+/// Whether the two descriptions of a host are equal, means aside. All of them is compared for one host alone, the one that
+/// an event changed; for another the kind tells, so that an event costs no comparison of long lists.
+fn is_same_of(
+    host: &Host,
+    changed: &Host,
+    description: &ServerDescription,
+    other: &ServerDescription,
+) -> bool
+    requires { (host.now ≡ changed.now → ⊥) → description.now.kind ≡ other.now.kind → description.now ≡ other.now }
+    ensures { IsTrue result ↔ (meanless description.now ≡ meanless other.now) }
+{
+    if *host == *changed {
+        return is_same_but_mean(description, other);
+    }
+    description.kind == other.kind
 }

@@ -1,4 +1,4 @@
-use Rattle.std.proofs.Common.{None, Some, sym, ap, ◌∙◌, option_map, slice_get}
+use Rattle.std.proofs.Common.{Some, sym, ap, ◌∙◌, option_map, slice_get}
 use Rattle.std.specs.Arc.{arc_value}
 use Rattle.std.specs.FinMap as map
 use Rattle.topo_rules.proofs.HostTables.{value_at}

@@ -1,4 +1,4 @@
-use Rattle.std.proofs.Common.{◌≡◌, ◌≤◌, length, ap, ◌∙◌, arith, filter, not, is_some, take_all}
+use Rattle.std.proofs.Common.{◌≤◌, length, ap, ◌∙◌, arith, filter, not, is_some, take_all}
 use Rattle.std.proofs.lemmas.Map.Entries.{length-keys_of}
 use Rattle.std.specs.FinMap as map
 use Rattle.topo_rules.proofs.Lists.{beyond-more}

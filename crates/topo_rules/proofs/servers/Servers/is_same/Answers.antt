@@ -1,5 +1,4 @@
-use Rattle.std.proofs.Common.{◌≡◌, ◌≤◌, length, sym, ap, ◌∙◌, arith, refl}
-use Rattle.std.specs.FinMap as map
+use Rattle.std.proofs.Common.{◌≤◌, length, sym, ap, ◌∙◌, arith, refl}
 use Rattle.topo_rules.specs.Changes.{plain}
 use Rattle.topo_rules.proofs.Lists.{len-plain, take_same, whole_same}
 use Rattle.topo_rules.proofs.servers.Servers.is_same.Goals as goal

@@ -1,5 +1,4 @@
 use Rattle.std.proofs.Common.{◌≡◌, take}
-use Rattle.std.specs.FinMap as map
 use Rattle.topo_rules.specs.Changes.{plain}
 use Rattle.topo_rules.proofs.servers.Servers.is_same.Given as goal
 

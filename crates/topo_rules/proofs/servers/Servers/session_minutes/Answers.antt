@@ -1,4 +1,4 @@
-use Rattle.std.proofs.Common.{None, sym, ap, ◌∙◌, map, filter, fold}
+use Rattle.std.proofs.Common.{None, sym, ap, ◌∙◌, map, filter}
 use Rattle.std.specs.Arc.{arc_value}
 use Rattle.std.specs.Map.{values_of}
 use Rattle.std.specs.Option.{unwrap_or}

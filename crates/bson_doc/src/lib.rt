@@ -20,6 +20,7 @@ mod depth;
 mod document;
 mod ids;
 mod name;
+mod readings;
 mod rows;
 #[cfg(test)]
 mod tests;

@@ -41,13 +41,13 @@ abbrev pub stamp_of : Value → Option ℕ
 stamp_of (value.Stamp stamp) = Some stamp
 stamp_of _ = None
 
--- The elements of a document, in order.
-abbrev pub elements_in : Value-F Value Document → Option (List (Name × Value))
-elements_in (layer.Doc d) = Some d.elements
-elements_in _ = None
+-- A document.
+abbrev pub document_in : Value-F Value Document → Option Document
+document_in (layer.Doc d) = Some d
+document_in _ = None
 
-abbrev pub elements_of : Value → Option (List (Name × Value))
-elements_of v = elements_in (out-Value v)
+abbrev pub document_of : Value → Option Document
+document_of v = document_in (out-Value v)
 
 -- The items of an array, in order.
 abbrev pub items_in : Value-F Value Document → Option (List Value)
@@ -69,4 +69,4 @@ version_in es =
     version_from (option_and_then oid_of (value_of (codes "processId") es)) (option_and_then int64_of (value_of (codes "counter") es))
 
 abbrev pub version_of : Value → Option TopologyVersion
-version_of v = option_and_then version_in (elements_of v)
+version_of v = option_and_then (λ d. version_in d.elements) (document_of v)

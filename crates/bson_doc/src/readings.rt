@@ -1,8 +1,8 @@
 //! What a value says where one kind is wanted.
 ghost use Rattle.std.specs.Prelude.{◌≡◌, codes};
-ghost use Rattle.std.specs.Option.{option_map, option_and_then};
+ghost use Rattle.std.specs.Option.{option_copied, option_map, option_and_then};
 ghost use Rattle.bson_doc.specs.Documents.{value_of};
-ghost use Rattle.bson_doc.specs.Readings.{text_of, whole_of, int32_of, int64_of, oid_of, stamp_of, elements_of, items_of, version_of};
+ghost use Rattle.bson_doc.specs.Readings.{text_of, whole_of, int32_of, int64_of, oid_of, stamp_of, document_of, items_of, version_of};
 
 use crate::{Document, Oid, Text, TopologyVersion, Value};
 
@@ -70,7 +70,7 @@ impl Value {
 
     /// A document.
     pub fn document(&self) -> Option<&Document>
-        ensures { option_map (λ d. d.now.elements) result ≡ elements_of self.now }
+        ensures { option_copied result ≡ document_of self.now }
     {
         match self {
             Value::Doc(document) => Some(document),

@@ -1,8 +1,8 @@
 use Rattle.std.proofs.Common.{refl, arith}
 use Rattle.std.proofs.lemmas.Result.{err_from_is_err_and}
-use Rattle.bson_wire.specs.Spelling.{values}
-use Rattle.bson_wire.specs.Reading.{document_at}
-use Rattle.bson_wire.proofs.Steps.{bind-Ok, Fails-mapped}
+use Rattle.bson_doc.specs.wire.Spelling.{values}
+use Rattle.bson_doc.specs.wire.Reading.{document_at}
+use Rattle.bson_doc.proofs.Steps.{bind-Ok, Fails-mapped}
 use Rattle.bson_wire.proofs.Loop.{elements_view, values_view, goes_on, stops, is_done, goes_on_item, unnamed_body-elements, unnamed_body-end, unnamed_body-Ok}
 use Rattle.bson_wire.proofs.reading.+reading.Goals as goal
 

@@ -93,6 +93,12 @@ pub stops : {X : Type 0} (view : List Element → List X) (R : ℕ → List ℕ 
 stops view R start end front rest e total lt h so_far =
     stop view R start end front _ _ e total h (subst (λ (xs : List ℕ). GoesOn view R start end front xs total) (parted rest (omega arith)) so_far)
 
+-- the same of an array, whose values alone are kept
+pub stops_item : (R : ℕ → List ℕ → Read Document) (start end : ℕ) (front : List Value) (rest : List ℕ) (e : BsonFault) (total : Result (List Value) BsonFault)
+    → 1 ≤ length rest → Fails fault.Memory e (unnamed_element (element_at R start end (get_or rest 0 0) (take (length rest - 1) (drop 1 rest)))) → GoesOn values R start end front rest total → Fails fault.Memory e total
+stops_item R start end front rest e total lt h so_far =
+    stops values R start end front rest e total lt (Fails-mapped unnamed fault.Memory e _ h) so_far
+
 pub is_done : {X : Type 0} (view : List Element → List X) (one : Element → X) → IsView view one → (R : ℕ → List ℕ → Read Document) (start end : ℕ) (front : List X) (rest : List ℕ) (total : Result (List X) BsonFault)
     → length rest < 1 → GoesOn view R start end front rest total → total ≡ Ok front
 is_done view one is R start end front rest total lt so_far =

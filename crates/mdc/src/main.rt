@@ -16,6 +16,8 @@ mod socket_net;
 mod socket_watch;
 mod standard_input;
 mod standard_output;
+#[cfg(test)]
+mod tests;
 
 use bson_doc::{Rows, Text};
 use machine_clock::MachineClock;

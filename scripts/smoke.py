@@ -182,7 +182,7 @@ def timed_cases(mdc, counts):
         plain, _ = seconds_of(lambda: plain_inserts(peer.host))
         peer.end()
         print(f"{COUNT} inserts took {took:.2f} seconds, where nothing listens {failing:.2f}, by a plain client {plain:.2f}")
-        ends = took < failing + plain + COUNT * 0.0005
+        ends = took < failing + plain + COUNT * 0.00025
         if ends:
             break
     compare("a rest ends when the reply comes", ends, True, counts)

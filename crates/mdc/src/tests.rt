@@ -17,6 +17,8 @@ fn events_end_the_rests_of_all(rt: HostRuntime) -> Result<(), Fail> {
     let (peer, _) = listener.accept()?;
     let watch = SocketWatch::new(rt.alloc(), &rt);
     watch.watch(&mut socket);
+    // The event that the connection stands.
+    watch.rest(&rt, most);
     let ended = AtomicU64::new(0);
     let rest = || {
         watch.rest(&rt, most);
@@ -26,6 +28,8 @@ fn events_end_the_rests_of_all(rt: HostRuntime) -> Result<(), Fail> {
         thread::join(&rt, &rest, &rest);
     };
     let events = || {
+        // Until then both rest, if the machine is not too busy.
+        thread::sleep(&rt, Duration::from_millis(300));
         for _ in 0..4000 {
             let _ = (&peer).write(b"x");
             thread::sleep(&rt, Duration::from_millis(5));

@@ -1,5 +1,5 @@
 -- What a stream's view gained between two histories.
-use Rattle.std.proofs.Common.{◌≡◌, ℕ, Bool, true, false, List, [], ◌∷◌, ◌++◌, drop, length, refl, sym, ap, ◌∙◌, subst, cond, append_assoc, append-nil, eqb}
+use Rattle.std.proofs.Common.{◌≡◌, ℕ, true, false, List, [], ◌∷◌, ◌++◌, ◌||◌, drop, length, refl, sym, ap, ◌∙◌, cond, append_assoc, append-nil, eqb}
 use Rattle.std.proofs.Math.Bool.{or-true}
 use Rattle.std.proofs.Math.Seq.{drop-append_seam}
 use Rattle.std.proofs.lemmas.List.{append_cancel_left}
@@ -12,7 +12,7 @@ use Rattle.net_link.specs.Seen.{Joins, SaidNotYet, Seen, after, gained, seen, un
 use Rattle.net_link.specs.declared.event.NetEvent.{NetEvent}
 use Rattle.net_link.specs.declared.event.NetEvent.TheVariants as event
 use Rattle.net_link.proofs.PrefixLemmas.{IsPrefixOf-trans}
-use Rattle.net_link.proofs.SeenLemmas.{fold-after-filter, seen-Adds}
+use Rattle.net_link.proofs.SeenLemmas.{fold-after-filter}
 
 -- What stands behind the older history.
 behind-prefix : {old new : List NetEvent} (grows : IsPrefixOf old new) → drop (length old) new ≡ grows.more
@@ -33,8 +33,9 @@ gained-Adds s adds =
 pub gained-more : (s : ℕ) {events a b c : List NetEvent} → IsPrefixOf a b → Adds events b c → gained s a c ≡ fold (after s) (gained s a b) events
 unfolding gained seen
 gained-more s {events = events} {a = a} {b = b} {c = c} p q =
-    let both : IsPrefixOf a c = IsPrefixOf-trans p q.grows in
-    ap (fold (after s) unseen) (behind-prefix both)
+    let whole : c ≡ a ++ (p.more ++ q.grows.more)
+    = sym q.grows.joined ∙ ap (λ (l : List NetEvent). l ++ q.grows.more) (sym p.joined) ∙ append_assoc a p.more q.grows.more in
+    ap (fold (after s) unseen) (ap (drop (length a)) whole ∙ drop-append_seam a (p.more ++ q.grows.more))
     ∙ fold-append (after s) unseen p.more q.grows.more
     ∙ fold-after-filter s q.grows.more (fold (after s) unseen p.more)
     ∙ ap (fold (after s) (fold (after s) unseen p.more)) (calls-behind q)

@@ -1,8 +1,6 @@
 -- What calls keep of streams, one after another.
-use Rattle.std.proofs.Common.{ℕ, ◌≤◌, List, arith}
-use Rattle.net_link.specs.Inbox.{Arrives}
+use Rattle.std.proofs.Common.{ℕ, List, arith}
 use Rattle.net_link.specs.Keeps.{Keeps, all, all_but_inbox_of}
-use Rattle.net_link.specs.Streams.{KeepsOpen}
 use Rattle.net_link.proofs.PrefixLemmas.{IsPrefixOf-same, IsPrefixOf-trans}
 
 -- Nothing was called.

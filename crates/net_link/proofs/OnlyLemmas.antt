@@ -2,12 +2,12 @@
 use Rattle.std.proofs.Common.{◌≡◌, ◌≢◌, ℕ, true, false, List, [], ◌∷◌, ◌++◌, refl, sym, ◌∙◌, subst, eqb, ne_eqb, eqb-true, rules}
 use Rattle.std.proofs.lemmas.List.Elements.{All-append, All-head, All-tail}
 use Rattle.std.specs.List.{All, fold}
-use Rattle.net_link.specs.Events.{is_at, Adds, IsFresh, OnlyAt, StayAt}
+use Rattle.net_link.specs.Events.{is_at, Adds, OnlyAt, StayAt}
 use Rattle.net_link.specs.Seen.{Seen, after, seen}
 use Rattle.net_link.specs.declared.event.NetEvent.{NetEvent}
 use Rattle.net_link.specs.declared.event.NetEvent.TheVariants as event
 use Rattle.net_link.proofs.EventLemmas.{Adds-none, Adds-trans}
-use Rattle.net_link.proofs.SeenLemmas.{fold-fresh, seen-Adds}
+use Rattle.net_link.proofs.SeenLemmas.{seen-Adds}
 
 number-apart : (u s t : ℕ) → eqb u s ≡ true → t ≢ s → eqb u t ≡ false
 number-apart u s t here apart = ne_eqb u t (λ same. apart (sym same ∙ eqb-true u s here))

@@ -40,3 +40,22 @@ pub record Made (kind : NetEvent → Bool) (out came : List ℕ) (last old new :
   pub only : All (λ e. kind e ≡ true) turns
   pub is_out : flat_map bytes_out turns ≡ out
   pub is_in : flat_map bytes_in turns ≡ came
+
+-- A write on the stream, which took bytes or had to wait; and such a read.
+abbrev pub is_writing : ℕ → NetEvent → Bool
+is_writing stream (event.Out s bytes) = s == stream
+is_writing stream (event.Full s) = s == stream
+is_writing stream _ = false
+
+abbrev pub is_reading : ℕ → NetEvent → Bool
+is_reading stream (event.Came s bytes) = s == stream
+is_reading stream (event.Dry s) = s == stream
+is_reading stream _ = false
+
+-- All writes come before all reads.
+pub record WritesFirst (stream : ℕ) (turns : List NetEvent) : Type 0 where
+  pub writes : List NetEvent
+  pub reads : List NetEvent
+  pub joined : turns ≡ writes ++ reads
+  pub only_writes : All (λ e. is_writing stream e ≡ true) writes
+  pub only_reads : All (λ e. is_reading stream e ≡ true) reads

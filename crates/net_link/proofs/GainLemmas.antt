@@ -29,6 +29,10 @@ unfolding gained seen
 gained-Adds s adds =
     ap (fold (after s) unseen) (behind-prefix adds.grows) ∙ fold-after-filter s adds.grows.more unseen ∙ ap (fold (after s) unseen) (calls-behind adds)
 
+pub gained-events : (s : ℕ) {events old new : List NetEvent} → Adds events old new → gained s old new ≡ fold (after s) unseen events
+unfolding gained seen
+gained-events s adds = gained-Adds s adds
+
 -- One call more.
 pub gained-more : (s : ℕ) {events a b c : List NetEvent} → IsPrefixOf a b → Adds events b c → gained s a c ≡ fold (after s) (gained s a b) events
 unfolding gained seen

@@ -1,5 +1,5 @@
 -- What calls keep of streams, one after another.
-use Rattle.std.proofs.Common.{ℕ, List, arith}
+use Rattle.std.proofs.Common.{List, arith, subst, ℕ, ◌≡◌}
 use Rattle.net_link.specs.Keeps.{Keeps, all, all_but_inbox_of}
 use Rattle.net_link.proofs.PrefixLemmas.{IsPrefixOf-same, IsPrefixOf-trans}
 
@@ -37,3 +37,10 @@ KeepsBut-trans p q = record {
   arrives = λ tells t apart opened. IsPrefixOf-trans (p.arrives tells t apart opened) (q.arrives tells t apart (p.opens t opened));
   stays_ended = λ tells t over. q.stays_ended tells t (p.stays_ended tells t over);
 }
+
+-- The same where the second call gives the stream's number by another name.
+pub KeepsBut-next : {A : Type 0} {stream other : ℕ} {tells : Type 0} {live : A → ℕ → Type 0} {mark : A → ℕ} {unread : A → ℕ → List ℕ} {ended : A → ℕ → Type 0} {a b c : A}
+    → other ≡ stream → Keeps (all_but_inbox_of stream) tells live mark unread ended a b → Keeps (all_but_inbox_of other) tells live mark unread ended b c
+    → Keeps (all_but_inbox_of stream) tells live mark unread ended a c
+KeepsBut-next {tells = tells} {live = live} {mark = mark} {unread = unread} {ended = ended} {b = b} {c = c} same p q =
+    KeepsBut-trans p (subst (λ (s : ℕ). Keeps (all_but_inbox_of s) tells live mark unread ended b c) same q)

@@ -1,5 +1,5 @@
 ghost use Rattle.std.specs.Prelude.{◌≡◌, ◌<◌, ◌≤◌, []};
-ghost use Rattle.net_link.specs.Causes.{Rose};
+ghost use Rattle.net_link.specs.Causes.{Rose, count_of, count_of-below};
 
 use crate::socket_watch::SocketWatch;
 use mio::net::TcpStream;
@@ -43,8 +43,8 @@ impl<'a, H: Sockets> SocketNet<'a, H> {
 
     /// Counts a fault.
     fn fail(&mut self)
-        ensures later { self.old.faults ≤ self.new.faults }
-        ensures rose { Rose self.old.faults self.new.faults }
+        ensures later { count_of self.old.faults ≤ count_of self.new.faults }
+        ensures rose { Rose (count_of self.old.faults) (count_of self.new.faults) }
         ensures next { self.new.next ≡ self.old.next }
     {
         self.faults = self.faults.saturating_add(1);
@@ -90,7 +90,7 @@ fn is_memory(error: &io::Error) -> bool {
 }
 
 impl<'a, H: Sockets> Net for SocketNet<'a, H> {
-    ghost faults = { λ s. s.faults };
+    ghost faults = { λ s. count_of s.faults };
 
     ghost is_open = { λ s t. t < s.next };
 
@@ -105,6 +105,8 @@ impl<'a, H: Sockets> Net for SocketNet<'a, H> {
     ghost has_ended = { λ _ _. ⊥ };
 
     ghost is_full = { λ _ _. ⊥ };
+
+    ghost counts = { λ s. count_of-below s.faults };
 
     ghost below = { λ _ _ given. given };
 

@@ -1,4 +1,4 @@
-ghost use Rattle.std.specs.Prelude.{◌≡◌, ◌≤◌, ◌↔◌, IfOk, IsTrue, IsUtf8, Some, string_bytes};
+ghost use Rattle.std.specs.Prelude.{◌≡◌, ◌≤◌, ◌↔◌, [], IfOk, IsOk, IsTrue, IsUtf8, Some, length, string_bytes, string_capacity};
 ghost use Rattle.std.specs.Ordering.{as_partial_cmp};
 ghost use Rattle.std.specs.Cmp.{partial_order_from_own_ties};
 ghost use Rattle.std.specs.Cmp.Rules.{comparing};
@@ -67,6 +67,20 @@ impl Host {
         ensures { IfOk result (λ h. h ≡ self.now) }
     {
         let name = String::from_str(alloc, self.name())?;
+        Ok(Host {
+            name,
+            port: self.port,
+        })
+    }
+
+    /// An equal host in the room of an empty string, which may be reserved ahead.
+    pub fn copy_into(&self, room: String) -> Result<Host, Memory>
+        requires { string_bytes room ≡ [] }
+        ensures copy { IfOk result (λ h. h ≡ self.now) }
+        ensures succeeds { length self.now.name ≤ string_capacity room → IsOk result }
+    {
+        let mut name = room;
+        name.push_str(self.name())?;
         Ok(Host {
             name,
             port: self.port,

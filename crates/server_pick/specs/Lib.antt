@@ -1,0 +1,7 @@
+pub mod Candidates
+pub mod Draws
+pub mod InOrder
+pub mod Picks
+pub mod Rules
+pub mod Runs
+pub mod Suitable

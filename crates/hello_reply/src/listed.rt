@@ -1,6 +1,6 @@
-ghost use Rattle.std.specs.Prelude.{◌≡◌, ◌≢◌, ◌-◌, ◌^◌, [], fold, length, map, min, Err, IfOk, OnOk};
-ghost use Rattle.std.specs.List.{IsDistinct};
-ghost use Rattle.host_name.specs.Addresses.{is_same_address};
+ghost use Rattle.std.specs.Prelude.{◌≡◌, ◌≢◌, ◌-◌, ◌^◌, List, [], ◌∷◌, ◌++◌, fold, map, min, not, Err, IfOk, OnOk, if◌then◌else◌};
+ghost use Rattle.std.specs.List.{list_any};
+ghost use Rattle.host_name.specs.Addresses.{Address, is_same_address};
 ghost use Rattle.hello_reply.specs.Listed.{with_host, listed as listed_hosts, within_limit, HasSeen};
 ghost use Rattle.hello_reply.specs.declared.fault.ReplyFault.{ReplyFault};
 
@@ -19,8 +19,7 @@ const MOST_HOSTS: usize = 1_000;
 /// A peer picks the names, so they are compared and not hashed: n of them take at most n log n comparisons. Hosts are
 /// counted by reference, and copied only where they are few enough.
 pub(crate) fn listed(alloc: Global, reply: &Document) -> Result<Rows<Host>, ReplyFault>
-    ensures told { result ≢ Err ReplyFault.Memory → result ≡ within_limit (listed_hosts reply.now.elements) }
-    ensures differ { IfOk result (IsDistinct is_same_address) }
+    ensures { result ≢ Err ReplyFault.Memory → result ≡ within_limit (listed_hosts reply.now.elements) }
 {
     let hosts = fields::hosts(alloc, reply, FieldName::Hosts)?;
     let passives = fields::hosts(alloc, reply, FieldName::Passives)?;
@@ -50,13 +49,36 @@ fn keep<'a>(
     ensures seen { OnOk result (HasSeen seen.new (map (λ h. h.now) kept.new.items)) }
 {
     for host in hosts {
-        match seen.insert(host) {
-            Ok(true) => kept.push(host)?,
-            Ok(false) => {}
-            Err(_) => return Err(AllocError),
-        }
+        keep_one(seen, kept, host)?;
     }
     Ok(())
+}
+
+/// Puts the host last, unless it is there.
+fn keep_one<'a>(
+    seen: &mut BTreeSet<&'a Host>,
+    kept: &mut Vec<&'a Host>,
+    host: &'a Host,
+) -> Result<(), Memory>
+    requires { HasSeen seen.old (map (λ h. h.now) kept.old.items) }
+    ensures kept { OnOk result (map (λ h. h.now) kept.new.items ≡ with_host (map (λ h. h.now) kept.old.items) host.now) }
+    ensures seen { OnOk result (HasSeen seen.new (map (λ h. h.now) kept.new.items)) }
+{
+    if is_new(seen, host)? {
+        kept.push(host)?;
+    }
+    Ok(())
+}
+
+/// Puts the host into the set, and tells whether it is new there.
+fn is_new<'a>(seen: &mut BTreeSet<&'a Host>, host: &'a Host) -> Result<bool, Memory>
+    ensures new { IfOk result (λ new. (kept : List Address) → HasSeen seen.old kept → new ≡ not (list_any (is_same_address host.now) kept)) }
+    ensures seen { IfOk result (λ new. (kept : List Address) → HasSeen seen.old kept → HasSeen seen.new (if new then kept ++ host.now ∷ [] else kept)) }
+{
+    match seen.insert(host) {
+        Ok(new) => Ok(new),
+        Err(_) => Err(AllocError),
+    }
 }
 
 /// The hosts to which these refer.

@@ -1,11 +1,16 @@
-ghost use Rattle.std.specs.Prelude.{◌≡◌, ◌+◌, ◌<◌, ◌≤◌, nat_le, filter, fold, length, min, slice_get};
+ghost use Rattle.std.specs.Prelude.{◌≡◌, ◌+◌, ◌-◌, ◌^◌, ◌<◌, nat_le, nat_lt, filter, length, slice_get, if◌then◌else◌};
 ghost use Rattle.std.specs.Option.{option_copied};
 ghost use Rattle.server_pick.specs.Draws.{drawn, least_mean as least_of, less_busy as less_busy_of, window};
 
 use crate::Candidate;
 
 /// Which of the candidates that were kept is chosen, by two words.
-pub(crate) fn draw(kept: &[Candidate], threshold_micros: u64, w1: u64, w2: u64) -> Option<&Candidate>
+pub(crate) fn draw(
+    kept: &[Candidate],
+    threshold_micros: u64,
+    w1: u64,
+    w2: u64,
+) -> Option<&Candidate>
     ensures { option_copied result ≡ drawn w1 w2 (window threshold_micros kept.now) }
 {
     // Both fit 64 bits, so that their sum fits 128.
@@ -16,7 +21,10 @@ pub(crate) fn draw(kept: &[Candidate], threshold_micros: u64, w1: u64, w2: u64) 
     }
     let first = w1 % count;
     let second = past(first, w2 % (count - 1));
-    less_busy(nth_within(kept, limit, first), nth_within(kept, limit, second))
+    less_busy(
+        nth_within(kept, limit, first),
+        nth_within(kept, limit, second),
+    )
 }
 
 /// The place of the item that stands at a place once the first is taken out.
@@ -61,7 +69,10 @@ fn nth_within(kept: &[Candidate], limit: u128, place: u64) -> Option<&Candidate>
 }
 
 /// Of two candidates the one with fewer operations in flight, the first on a tie.
-fn less_busy<'a>(first: Option<&'a Candidate>, second: Option<&'a Candidate>) -> Option<&'a Candidate>
+fn less_busy<'a>(
+    first: Option<&'a Candidate>,
+    second: Option<&'a Candidate>,
+) -> Option<&'a Candidate>
     ensures { option_copied result ≡ less_busy_of (option_copied first.entry) (option_copied second.entry) }
 {
     match (first, second) {

@@ -1,5 +1,4 @@
-ghost use Rattle.std.specs.Prelude.{◌≡◌, ◌≤◌, All, IfOk, filter, length, map};
-ghost use Rattle.std.specs.FinMap as map;
+ghost use Rattle.std.specs.Prelude.{◌≡◌, IfOk, filter, map};
 ghost use Rattle.server_pick.specs.Candidates.{candidate_of, candidates, servers_of};
 ghost use Rattle.server_pick.specs.Rules.{admits as admits_by};
 
@@ -44,7 +43,11 @@ fn admitted<L: Loads>(
 }
 
 /// The server as a picker sees it.
-fn candidate<L: Loads>(alloc: Global, server: &ServerDescription, loads: &L) -> Result<Candidate, Memory>
+fn candidate<L: Loads>(
+    alloc: Global,
+    server: &ServerDescription,
+    loads: &L,
+) -> Result<Candidate, Memory>
     ensures { IfOk result (λ c. c ≡ candidate_of (L.load loads.now) server.now) }
 {
     let host = server.host.copy(alloc)?;

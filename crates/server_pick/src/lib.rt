@@ -19,20 +19,17 @@ mod criteria;
 mod draw;
 mod gather;
 mod in_order;
-pub mod laws;
 mod loads;
 mod pick;
 mod picked;
 mod picker;
 mod rule;
 mod suitable;
-#[cfg(test)]
-mod tests;
 
 pub use candidate::Candidate;
 pub use criteria::{Criteria, Need};
 pub use loads::Loads;
-pub use pick::{pick, pick_by};
+pub use pick::pick_by;
 pub use picked::Picked;
 pub use picker::{KeepAll, Picker};
 

@@ -35,8 +35,8 @@ mod tests;
 mod varying;
 mod writing;
 
+pub use bson_doc::BsonFault;
 pub use decoding::decode;
 pub use encoding::encode;
-pub use bson_doc::BsonFault;
 pub use fault::EncodeFault;
 pub use sizes::size;

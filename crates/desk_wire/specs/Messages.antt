@@ -42,6 +42,12 @@ abbrev pub Follow : List ℕ → List Step → List ℕ → Type 0
 Follow before [] held = before ≡ held
 Follow before (step ∷ steps) held = (between : List ℕ) × HandsOut (before ++ step.came) between step.answer × Follow between steps held
 
+-- The last pull wanted memory, so that a message which is there whole may still be held.
+abbrev pub WantedMemory : List Step → Type 0
+WantedMemory [] = ⊥
+WantedMemory (step ∷ []) = step.answer ≡ pulled.Memory
+WantedMemory (step ∷ next ∷ steps) = WantedMemory (next ∷ steps)
+
 -- A call of a wire that has to do with what it sends: bytes were queued, when none were unsent, or some were sent.
 pub data Sending : Type 0 where
   queued : List ℕ → Sending

@@ -18,6 +18,7 @@
 //! `plain_put`.
 #![tactic(auto)]
 
+mod appending;
 mod decoding;
 mod encoding;
 mod fault;
@@ -37,8 +38,10 @@ mod tests;
 mod varying;
 mod writing;
 
+pub use appending::append;
 pub use decoding::decode;
 pub use encoding::encode;
 pub use fault::{BsonFault, EncodeFault};
 pub use laws::{flawless, no_look_ahead, no_prefix, one_document, read_again, spelled_spells};
+pub use limits::MOST_LEVELS;
 pub use sizes::size;

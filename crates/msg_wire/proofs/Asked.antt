@@ -20,15 +20,16 @@ use Rattle.msg_wire.proofs.Headers.{InOrder, InOrder-from_tests, header_at-whole
 use Rattle.msg_wire.proofs.Places.{number_at-append, number_at-take}
 use Rattle.msg_wire.proofs.Steps.{IfErr-bind, err_ok, err_same, err_from_fault}
 
-IsBehind-checked_flags : (flags : ℕ) (refused : Option ℕ) → IfErr (checked_flags flags refused) IsBehind
-IsBehind-checked_flags flags None = tt
-IsBehind-checked_flags flags (Some bit) = tt
+IsBehind-checked_flags : (end flags : ℕ) (refused : Option ℕ) → IfErr (checked_flags flags refused) (IsBehind end)
+IsBehind-checked_flags end flags None = tt
+IsBehind-checked_flags end flags (Some bit) = tt
 
-IsBehind-message_at : (bytes : List ℕ) → IfErr (message_at bytes) IsBehind
+pub IsBehind-message_at : (bytes : List ℕ) → IfErr (message_at bytes) (IsBehind (length bytes))
 unfolding message_at
 IsBehind-message_at bytes =
-    IfErr-bind IsBehind (checked_flags (number_at 16 bytes) (refused_bit (number_at 16 bytes))) _ (IsBehind-checked_flags (number_at 16 bytes) (refused_bit (number_at 16 bytes)))
-    (λ flags. IfErr-bind IsBehind (sections_at (length bytes) (checksum_size flags) (length bytes) None (drop 20 bytes)) _ (IsBehind-sections_at (length bytes) (checksum_size flags) (length bytes) None (drop 20 bytes)) (λ held. tt))
+    let end : ℕ = length bytes in
+    IfErr-bind (IsBehind end) (checked_flags (number_at 16 bytes) (refused_bit (number_at 16 bytes))) _ (IsBehind-checked_flags end (number_at 16 bytes) (refused_bit (number_at 16 bytes)))
+    (λ flags. IfErr-bind (IsBehind end) (sections_at end (checksum_size flags) end None (drop 20 bytes)) _ (IsBehind-sections_at end (checksum_size flags) end None (drop 20 bytes)) (λ held. tt))
 
 -- A fault of the header's own numbers.
 abbrev pub IsRefusal : MsgFault → Type 0
@@ -37,7 +38,7 @@ IsRefusal (fault.Opcode got) = Unit {0}
 IsRefusal _ = ⊥
 
 -- The header has a fault of its own, however many bytes are there.
-abbrev IsRefused : ℕ → ℕ → Type 0
+abbrev pub IsRefused : ℕ → ℕ → Type 0
 IsRefused total code = (e : MsgFault) × IsRefusal e × ((there : ℕ) → checked_header there total code ≡ Err e)
 
 judged_by : (total code : ℕ) (a b : Bool) → not (is_length total) ≡ a → not (eqb code 2013) ≡ b → InOrder total code ⊎ IsRefused total code
@@ -45,36 +46,39 @@ judged_by total code true b p q = inr (fault.Length (cast_signed w32 total), tt,
 judged_by total code false true p q = inr (fault.Opcode (cast_signed w32 code), tt, λ there. rw (p, q) refl)
 judged_by total code false false p q = inl (InOrder-from_tests total code p q)
 
-judged : (total code : ℕ) → InOrder total code ⊎ IsRefused total code
+pub judged : (total code : ℕ) → InOrder total code ⊎ IsRefused total code
 judged total code = judged_by total code (not (is_length total)) (not (eqb code 2013)) refl refl
 
-read-early : (bytes : List ℕ) → length bytes < 16 → read bytes ≡ Err (fault.Short 16)
+pub read-early : (bytes : List ℕ) → length bytes < 16 → read bytes ≡ Err (fault.Short 16)
 unfolding read header_at
 read-early bytes few = let test : ltb (length bytes) 16 ≡ true = grind (arith, nat_tests) in rw test refl
 
-read-refused : (bytes : List ℕ) (e : MsgFault) → 16 ≤ length bytes → checked_header (length bytes) (number_at 0 bytes) (number_at 12 bytes) ≡ Err e → read bytes ≡ Err e
+pub read-refused : (bytes : List ℕ) (e : MsgFault) → 16 ≤ length bytes → checked_header (length bytes) (number_at 0 bytes) (number_at 12 bytes) ≡ Err e → read bytes ≡ Err e
 unfolding read header_at
 read-refused bytes e there h = let test : ltb (length bytes) 16 ≡ false = grind (arith, nat_tests) in rw (test, h) refl
 
-read-partial : (bytes : List ℕ) → 16 ≤ length bytes → InOrder (number_at 0 bytes) (number_at 12 bytes) → length bytes < number_at 0 bytes
+pub read-partial : (bytes : List ℕ) → 16 ≤ length bytes → InOrder (number_at 0 bytes) (number_at 12 bytes) → length bytes < number_at 0 bytes
     → read bytes ≡ Err (fault.Short (number_at 0 bytes))
 unfolding read
 read-partial bytes there order few =
     let test : ltb (length bytes) (number_at 0 bytes) ≡ true = grind (arith, nat_tests) in
     rw (header_at-whole bytes there order, test) refl
 
-read-whole : (bytes : List ℕ) → 16 ≤ length bytes → InOrder (number_at 0 bytes) (number_at 12 bytes) → number_at 0 bytes ≤ length bytes
+pub read-whole : (bytes : List ℕ) → 16 ≤ length bytes → InOrder (number_at 0 bytes) (number_at 12 bytes) → number_at 0 bytes ≤ length bytes
     → read bytes ≡ message_at (take (number_at 0 bytes) bytes)
 unfolding read
 read-whole bytes there order enough =
     let test : ltb (length bytes) (number_at 0 bytes) ≡ false = grind (arith, nat_tests) in
     rw (header_at-whole bytes there order, test) refl
 
-not_behind : (r : Result Message MsgFault) (e : MsgFault) → IfErr r IsBehind → r ≡ Err e → (IsBehind e → ⊥) → ⊥
-not_behind (Ok m) e b h front = absurd (err_ok (sym h))
-not_behind (Err f) e b h front = front (subst IsBehind (err_same (Err f) f e refl h) b)
+pub is_behind : (end : ℕ) (r : Result Message MsgFault) (e : MsgFault) → IfErr r (IsBehind end) → r ≡ Err e → IsBehind end e
+is_behind end (Ok m) e b h = absurd (err_ok (sym h))
+is_behind end (Err f) e b h = subst (IsBehind end) (err_same (Err f) f e refl h) b
 
-read-flaw : (bytes : List ℕ) (e : MsgFault) → flaw bytes ≡ Some e → read bytes ≡ Err e
+not_behind : (bytes : List ℕ) (e : MsgFault) → message_at bytes ≡ Err e → (IsBehind (length bytes) e → ⊥) → ⊥
+not_behind bytes e h front = front (is_behind (length bytes) (message_at bytes) e (IsBehind-message_at bytes) h)
+
+pub read-flaw : (bytes : List ℕ) (e : MsgFault) → flaw bytes ≡ Some e → read bytes ≡ Err e
 unfolding flaw
 read-flaw bytes e h = err_from_fault (read bytes) e h
 
@@ -111,7 +115,7 @@ Waits-from_flaw bytes n there h = elim (judged (number_at 0 bytes) (number_at 12
     | inl few ↦
         let total = short_is (read bytes) (number_at 0 bytes) n (read-partial bytes there order few) (read-flaw bytes (fault.Short n) h) in
         record { order = order; total = total; fewer = omega arith }
-    | inr enough ↦ absurd (not_behind (message_at (take (number_at 0 bytes) bytes)) (fault.Short n) (IsBehind-message_at (take (number_at 0 bytes) bytes)) (sym (read-whole bytes there order enough) ∙ read-flaw bytes (fault.Short n) h) (λ b. b))
+    | inr enough ↦ absurd (not_behind (take (number_at 0 bytes) bytes) (fault.Short n) (sym (read-whole bytes there order enough) ∙ read-flaw bytes (fault.Short n) h) (λ b. b))
   ]
 ]
 
@@ -168,10 +172,10 @@ still_short bytes more n h few = elim (cases_lt (length bytes) 16) [
 ]
 
 -- Where the header is in order, no fault is its own.
-not_refusal : (bytes : List ℕ) (e : MsgFault) → 16 ≤ length bytes → InOrder (number_at 0 bytes) (number_at 12 bytes) → IsRefusal e → (IsBehind e → ⊥) → e ≢ fault.Short (number_at 0 bytes) → flaw bytes ≢ Some e
+not_refusal : (bytes : List ℕ) (e : MsgFault) → 16 ≤ length bytes → InOrder (number_at 0 bytes) (number_at 12 bytes) → IsRefusal e → (IsBehind (length (take (number_at 0 bytes) bytes)) e → ⊥) → e ≢ fault.Short (number_at 0 bytes) → flaw bytes ≢ Some e
 not_refusal bytes e there order r b s h = elim (cases_lt (length bytes) (number_at 0 bytes)) [
   | inl few ↦ s (err_same (read bytes) e (fault.Short (number_at 0 bytes)) (read-flaw bytes e h) (read-partial bytes there order few))
-  | inr enough ↦ not_behind (message_at (take (number_at 0 bytes) bytes)) e (IsBehind-message_at (take (number_at 0 bytes) bytes)) (sym (read-whole bytes there order enough) ∙ read-flaw bytes e h) b
+  | inr enough ↦ not_behind (take (number_at 0 bytes) bytes) e (sym (read-whole bytes there order enough) ∙ read-flaw bytes e h) b
 ]
 
 pub header_first : (bytes more : List ℕ) (n : ℕ) (got : ℤ) → 16 ≤ length bytes → flaw bytes ≡ Some (fault.Short n)
@@ -199,7 +203,7 @@ picked false false total n h = absurd cc
 picked false true total n h = (refl, cc)
 
 -- What a header's messageLength is, where it is in its range.
-need_of-Some : (bytes : List ℕ) (n : ℕ) → need_of bytes ≡ Some n → (number_at 0 bytes ≡ n) × (26 ≤ n)
+pub need_of-Some : (bytes : List ℕ) (n : ℕ) → need_of bytes ≡ Some n → (number_at 0 bytes ≡ n) × (26 ≤ n)
 need_of-Some bytes n h =
     let p = picked (ltb (length bytes) 4) (is_length (number_at 0 bytes)) (number_at 0 bytes) n h in
     (p.1, grind (arith, nat_tests, p.0, p.1))

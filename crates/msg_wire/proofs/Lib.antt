@@ -8,6 +8,8 @@ pub mod Framings
 mod Headers
 mod Messages
 pub mod Names
+pub mod Partings
+mod PlaceLemmas
 mod Places
 mod SectionLaws
 mod SectionLoop

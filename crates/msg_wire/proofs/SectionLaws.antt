@@ -16,7 +16,7 @@ use Rattle.msg_wire.specs.declared.sequence.Sequence.{Sequence}
 use Rattle.msg_wire.proofs.DocumentLists.{document_at-ok}
 use Rattle.msg_wire.proofs.SequenceLaws.{sequence_takes, sequence_again}
 use Rattle.msg_wire.proofs.Sizes.{length-IsBody}
-use Rattle.msg_wire.proofs.Steps.{bind_ok, either_ok, err_ok, guard_ok, mapped_ok, or_fault-Ok}
+use Rattle.msg_wire.proofs.Steps.{bind_ok, either_ok, err_ok, guard_ok, mapped_ok, or_fault-Ok, unless_some}
 
 -- ---- one section
 
@@ -80,8 +80,8 @@ kind1_again found end text rest s is =
 
 closed-ok : (spare end left : ℕ) (body : Option Document) (d : Document) → closed_at spare end left body ≡ Ok d → (spare ≤ left) × (body ≡ Some d)
 closed-ok spare end left body d e =
-    let a = guard_ok (ltb left spare) _ _ d e in
-    (ltb-false _ _ a.0, or_fault-Ok _ body d a.1)
+    let a = unless_some (ltb left spare) body d (or_fault-Ok _ _ d e) in
+    (ltb-false _ _ a.0, a.1)
 
 pub sections_at-end : (fuel spare end : ℕ) (body : Option Document) (bytes : List ℕ) → length bytes ≤ spare
     → sections_at (suc fuel) spare end body bytes ≡ (closed_at spare end (length bytes) body >>= (λ document. Ok (document, [])))

@@ -64,6 +64,10 @@ pub or_fault-Ok : {A : Type 0} (f : MsgFault) (o : Option A) (x : A) → or_faul
 or_fault-Ok f None x h = absurd cc
 or_fault-Ok f (Some y) x h = cc
 
+pub unless_some : {A : Type 0} (b : Bool) (o : Option A) (x : A) → cond b None o ≡ Some x → (b ≡ false) × (o ≡ Some x)
+unless_some true o x h = absurd cc
+unless_some false o x h = (refl, h)
+
 pub err_from_fault : {A : Type 0} (r : Result A MsgFault) (e : MsgFault) → fault_of r ≡ Some e → r ≡ Err e
 err_from_fault (Ok x) e h = cc
 err_from_fault (Err f) e h = cc

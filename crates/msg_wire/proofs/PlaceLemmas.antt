@@ -1,10 +1,9 @@
 -- Every place that a fault names lies inside the message.
-use Rattle.std.proofs.Common.{◌≡◌, ◌≤◌, ◌<◌, ℕ, List, length, take, Option, Some, None, IsSome, inl, inr, refl, sym, ap, ◌∙◌, subst, arith}
+use Rattle.std.proofs.Common.{◌≡◌, ◌≤◌, ◌<◌, ℕ, List, length, take, Option, Some, None, inl, inr, refl, sym, ap, ◌∙◌, subst, arith}
 use Rattle.std.proofs.lemmas.Bool.{cases_lt}
 use Rattle.std.proofs.lemmas.List.{length-take-le}
 use Rattle.msg_wire.specs.Fields.{number_at}
 use Rattle.msg_wire.specs.Places.{place_of}
-use Rattle.msg_wire.specs.Fronts as fronts
 use Rattle.msg_wire.specs.Reading.{flaw, message_at, need_of, read}
 use Rattle.msg_wire.specs.declared.fault.MsgFault.{MsgFault}
 use Rattle.msg_wire.specs.declared.fault.MsgFault.TheVariants as fault
@@ -62,13 +61,3 @@ inside bytes e at h place = elim (cases_lt (length bytes) 16) [
     ]
   ]
 ]
-
--- A fault of the bytes has a place.
-pub place_of-refusal : (e : MsgFault) → fronts.IsRefusal e → IsSome (place_of e)
-place_of-refusal (fault.Short need) h = absurd h
-place_of-refusal (fault.Length got) h = refl
-place_of-refusal (fault.Opcode got) h = refl
-place_of-refusal (fault.Flags bit) h = refl
-place_of-refusal (fault.Sections at) h = refl
-place_of-refusal (fault.Body at inner) h = refl
-place_of-refusal fault.Memory h = absurd h

@@ -52,13 +52,7 @@ pub fn write(
 }
 
 /// What stands in front of the document of a message that fits, with room for the document, which has so many bytes.
-fn front_of(
-    alloc: Global,
-    spelling: usize,
-    id: i32,
-    to: i32,
-    flags: u32,
-) -> Result<Vec<u8>, Memory>
+fn front_of(alloc: Global, spelling: usize, id: i32, to: i32, flags: u32) -> Result<Vec<u8>, Memory>
     requires { spelling + 21 ≤ most_message }
     ensures { IfOk result (λ bytes. bytes.items ≡ header (spelling + 21) id to ++ number32 flags ++ 0 ∷ []) }
 {

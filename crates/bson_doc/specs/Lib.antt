@@ -1,4 +1,6 @@
 pub mod Documents
 pub mod Names
 pub mod Room
+pub mod Steps
 pub mod formers
+pub mod wire

@@ -13,12 +13,14 @@
 //! [`Document::at`]. Every call that allocates takes an allocator first and answers [`Memory`] where it gets none.
 #![tactic(auto)]
 
+mod bson_fault;
 mod buffer;
 mod cluster_time;
 mod copy;
 mod depth;
 mod document;
 mod ids;
+mod kind;
 mod name;
 mod rows;
 #[cfg(test)]
@@ -27,9 +29,11 @@ mod text;
 mod topology_version;
 mod value;
 
+pub use bson_fault::BsonFault;
 pub use buffer::Buffer;
 pub use cluster_time::ClusterTime;
 pub use ids::{Lsid, Oid};
+pub use kind::{Kind, PlainKind};
 pub use name::{HasNul, Name};
 pub use rows::{Bytes, Rows};
 pub use text::Text;

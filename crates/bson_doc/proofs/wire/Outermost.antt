@@ -4,12 +4,13 @@ use Rattle.std.proofs.lemmas.Bool.{ltb-false, le-ltb, or_parts, or_from}
 use Rattle.std.proofs.lemmas.List.{take_at, drop_at, take-append-drop, length-append, length-take-le, length-drop, append-nil}
 use Rattle.byteorder.specs.Endian.{little_number}
 use Rattle.bson_doc.specs.declared.value.Document.{Document}
-use Rattle.bson_wire.specs.declared.fault.BsonFault.{BsonFault}
-use Rattle.bson_wire.specs.declared.fault.BsonFault.TheVariants as fault
-use Rattle.bson_wire.specs.Spelling.{SpellsWithin, Spells}
-use Rattle.bson_wire.specs.Reading.{document_at, read, fault_of, flaw, Fails}
-use Rattle.bson_wire.proofs.Steps.{ok_is, err_or, Fails-Ok, Fails-Err}
-use Rattle.bson_wire.proofs.Documents.{body_takes, body_again, document_takes, document_again}
+use Rattle.bson_doc.specs.declared.bson_fault.BsonFault.{BsonFault}
+use Rattle.bson_doc.specs.declared.bson_fault.BsonFault.TheVariants as fault
+use Rattle.bson_doc.specs.Steps.{fault_of, Fails}
+use Rattle.bson_doc.specs.wire.Spelling.{SpellsWithin, Spells}
+use Rattle.bson_doc.specs.wire.Reading.{document_at, read, flaw}
+use Rattle.bson_doc.proofs.Steps.{ok_is, err_or, Fails-Ok, Fails-Err}
+use Rattle.bson_doc.proofs.wire.Documents.{body_takes, body_again, document_takes, document_again}
 
 -- what was taken for the outermost document
 pub record TakesWhole (bytes : List ℕ) (d : Document) (rest : List ℕ) : Type 0 where
@@ -86,12 +87,12 @@ pub is_sound : (bytes : List ℕ) (x : Document × List ℕ) → read bytes ≡ 
 unfolding flaw
 is_sound bytes x e = ap fault_of e
 
-pub is_memory : (e : BsonFault) (bytes text more : List ℕ) (d : Document) → Fails e (read bytes) → bytes ≡ text ++ more → Spells text d → e ≡ fault.Memory
-is_memory e bytes text more d fails parts spells = Fails-Ok e (read bytes) (d, more) fails (ap read parts ∙ read_again text more d spells)
+pub is_memory : (e : BsonFault) (bytes text more : List ℕ) (d : Document) → Fails fault.Memory e (read bytes) → bytes ≡ text ++ more → Spells text d → e ≡ fault.Memory
+is_memory e bytes text more d fails parts spells = Fails-Ok fault.Memory e (read bytes) (d, more) fails (ap read parts ∙ read_again text more d spells)
 
-pub is_flaw : (e : BsonFault) (bytes : List ℕ) → Fails e (read bytes) → (e ≡ fault.Memory → ⊥) → flaw bytes ≡ Some e
+pub is_flaw : (e : BsonFault) (bytes : List ℕ) → Fails fault.Memory e (read bytes) → (e ≡ fault.Memory → ⊥) → flaw bytes ≡ Some e
 unfolding flaw
-is_flaw e bytes fails other = ap fault_of (Fails-Err e (read bytes) fails other)
+is_flaw e bytes fails other = ap fault_of (Fails-Err fault.Memory e (read bytes) fails other)
 
 -- ---- the laws
 

@@ -6,11 +6,11 @@ use Rattle.byteorder.specs.Endian.{little_number}
 use Rattle.bson_doc.specs.declared.name.Name.{Name}
 use Rattle.bson_doc.specs.declared.value.Document.{Document}
 use Rattle.bson_doc.specs.declared.value.Value.{Value}
-use Rattle.bson_wire.specs.declared.fault.BsonFault.{BsonFault}
-use Rattle.bson_wire.specs.declared.fault.BsonFault.TheVariants as fault
-use Rattle.bson_wire.specs.Reading.{◌>>=◌, behind_zero, elements_at, body_at, document_at, read, fault_of, flaw}
-use Rattle.bson_wire.proofs.Documents.{Reader}
-use Rattle.bson_wire.proofs.Loop.{document_of}
+use Rattle.bson_doc.specs.declared.bson_fault.BsonFault.{BsonFault}
+use Rattle.bson_doc.specs.declared.bson_fault.BsonFault.TheVariants as fault
+use Rattle.bson_doc.specs.Steps.{◌>>=◌, fault_of}
+use Rattle.bson_doc.specs.wire.Reading.{behind_zero, elements_at, body_at, document_at, read, flaw}
+use Rattle.bson_doc.proofs.wire.Documents.{Reader, document_of}
 
 abbrev Element : Type 0
 Element = Name × Value

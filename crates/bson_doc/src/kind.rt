@@ -1,5 +1,5 @@
 ghost use Rattle.std.specs.Prelude.{◌≡◌};
-ghost use Rattle.bson_wire.specs.Kinds.{byte_of, kind_of_byte};
+ghost use Rattle.bson_doc.specs.wire.Kinds.{byte_of, kind_of_byte};
 
 /// The kind of a value (bsonspec 1.1, element).
 #[derive(Clone, Copy, Debug, PartialEq, Eq)]

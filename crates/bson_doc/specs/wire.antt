@@ -1,0 +1,5 @@
+pub mod Limits
+pub mod Kinds
+pub mod Spelling
+pub mod Spelled
+pub mod Reading

@@ -1,8 +1,8 @@
 ghost use Rattle.std.specs.Prelude.{◌≡◌, ◌≤◌, ◌<◌, ◌++◌, length, Err, IfOk, OnOk, IfErr};
 ghost use Rattle.bson_doc.specs.Documents.{depth_of};
-ghost use Rattle.bson_wire.specs.Limits.{most_bytes, most_levels};
-ghost use Rattle.bson_wire.specs.Spelling.{Spells};
-ghost use Rattle.bson_wire.specs.Spelled.{spelled};
+ghost use Rattle.bson_doc.specs.wire.Limits.{most_bytes, most_levels};
+ghost use Rattle.bson_doc.specs.wire.Spelling.{Spells};
+ghost use Rattle.bson_doc.specs.wire.Spelled.{spelled};
 
 use crate::EncodeFault;
 use crate::limits::MOST_LEVELS;

@@ -4,12 +4,13 @@ use Rattle.std.proofs.lemmas.Bool.{cases_lt}
 use Rattle.std.proofs.lemmas.Bool.Decides.{nat_tests}
 use Rattle.std.proofs.lemmas.List.{take_all, take-append-le, length-take-le}
 use Rattle.std.specs.Int.{w32, cast_signed}
+use Rattle.bson_doc.specs.Steps.{fault_of}
+use Rattle.bson_doc.proofs.Steps.{IfErr-bind, err_ok, err_same, err_from_fault}
 use Rattle.msg_wire.specs.Asking.{AsksFor, IsWhole}
 use Rattle.msg_wire.specs.Flags.{refused_bit, checksum_size}
 use Rattle.msg_wire.specs.Framing.{Framed}
 use Rattle.msg_wire.specs.Fields.{number_at}
 use Rattle.msg_wire.specs.Reading.{is_length, need_of, checked_header, header_at, checked_flags, message_at, read, flaw}
-use Rattle.msg_wire.specs.Steps.{fault_of}
 use Rattle.msg_wire.specs.declared.fault.MsgFault.{MsgFault}
 use Rattle.msg_wire.specs.declared.fault.MsgFault.TheVariants as fault
 use Rattle.msg_wire.specs.declared.message.Message.{Message}
@@ -18,7 +19,6 @@ use Rattle.msg_wire.specs.Sections.{sections_at}
 use Rattle.msg_wire.proofs.Behind.{IsBehind, IsBehind-sections_at}
 use Rattle.msg_wire.proofs.Headers.{InOrder, InOrder-from_tests, header_at-whole}
 use Rattle.msg_wire.proofs.Places.{number_at-append, number_at-take}
-use Rattle.msg_wire.proofs.Steps.{IfErr-bind, err_ok, err_same, err_from_fault}
 
 IsBehind-checked_flags : (end flags : ℕ) (refused : Option ℕ) → IfErr (checked_flags flags refused) (IsBehind end)
 IsBehind-checked_flags end flags None = tt

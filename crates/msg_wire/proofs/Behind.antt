@@ -1,16 +1,16 @@
 -- What stands behind the header has no fault of the header, and its faults lie inside the message.
 use Rattle.std.proofs.Common.{◌≤◌, ℕ, zero, suc, ◌-◌, Bool, true, false, cond, ltb, leb, ◌||◌, List, [], ◌∷◌, length, take, drop, Option, Some, is_some, Result, Ok, Err, IfErr, arith}
+use Rattle.bson_doc.specs.Steps.{or_fault}
 use Rattle.bson_doc.specs.declared.value.Document.{Document}
-use Rattle.bson_wire.specs.Reading.{until_zero}
-use Rattle.bson_wire.specs.Reading as documents
+use Rattle.bson_doc.proofs.Steps.{IfErr-bind, IfErr-cond, IfErr-or_fault}
+use Rattle.bson_doc.specs.wire.Reading.{until_zero}
+use Rattle.bson_doc.specs.wire.Reading as documents
 use Rattle.msg_wire.specs.Fields.{number_at}
 use Rattle.msg_wire.specs.Sections.{Held, closed_at, document_at, documents_at, name_at, section_at, sections_at, sequence_at, size_at, text_at, with_section}
-use Rattle.msg_wire.specs.Steps.{or_fault}
 use Rattle.msg_wire.specs.declared.fault.MsgFault.{MsgFault}
 use Rattle.msg_wire.specs.declared.fault.MsgFault.TheVariants as fault
 use Rattle.msg_wire.specs.declared.section.Section.{Section}
 use Rattle.msg_wire.specs.declared.section.Section.TheVariants as section
-use Rattle.msg_wire.proofs.Steps.{IfErr-bind, IfErr-cond, IfErr-or_fault}
 
 -- A fault of what stands behind the header of a message of so many bytes.
 abbrev pub IsBehind : ℕ → MsgFault → Type 0

@@ -7,8 +7,8 @@ use Rattle.std.proofs.lemmas.List.{append_assoc, append-nil}
 use Rattle.byteorder.specs.Endian.{little_number}
 use Rattle.byteorder.specs.Numbers.{length-bytes_low_first, little_number-reads_back}
 use Rattle.bson_doc.specs.declared.value.Document.{Document}
-use Rattle.bson_wire.specs.Spelling.{IsNumber32, Spells}
-use Rattle.bson_wire.specs.Spelled.{number32, spelled}
+use Rattle.bson_doc.specs.wire.Spelling.{IsNumber32, Spells}
+use Rattle.bson_doc.specs.wire.Spelled.{number32, spelled}
 use Rattle.msg_wire.specs.Flags.{refused_bit, checksum_size, is_set}
 use Rattle.msg_wire.specs.Framing.{IsSigned, IsHeader, Framed, header, framing, frame, message_of}
 

@@ -15,5 +15,4 @@ mod SectionLaws
 mod SectionLoop
 mod SequenceLaws
 mod Sizes
-mod Steps
 pub mod Whole

@@ -2,6 +2,7 @@
 use Rattle.std.proofs.Common.{◌≡◌, ◌≤◌, ◌<◌, ℕ, List, length, take, Option, Some, None, inl, inr, refl, sym, ap, ◌∙◌, subst, arith}
 use Rattle.std.proofs.lemmas.Bool.{cases_lt}
 use Rattle.std.proofs.lemmas.List.{length-take-le}
+use Rattle.bson_doc.proofs.Steps.{err_same}
 use Rattle.msg_wire.specs.Fields.{number_at}
 use Rattle.msg_wire.specs.Places.{place_of}
 use Rattle.msg_wire.specs.Reading.{flaw, message_at, need_of, read}
@@ -9,7 +10,6 @@ use Rattle.msg_wire.specs.declared.fault.MsgFault.{MsgFault}
 use Rattle.msg_wire.specs.declared.fault.MsgFault.TheVariants as fault
 use Rattle.msg_wire.proofs.Asked.{IsBehind-message_at, IsRefusal, is_behind, judged, need_of-Some, read-early, read-flaw, read-partial, read-refused, read-whole}
 use Rattle.msg_wire.proofs.Behind.{IsBehind}
-use Rattle.msg_wire.proofs.Steps.{err_same}
 
 abbrev InsideBytes : List ℕ → ℕ → Type 0
 InsideBytes bytes at = (at ≤ length bytes) × ((n : ℕ) → need_of bytes ≡ Some n → at ≤ n)

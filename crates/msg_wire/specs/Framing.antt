@@ -4,8 +4,8 @@ use Rattle.std.specs.Prelude.{◌≡◌, ℕ, ℤ, ◌+◌, ◌≤◌, List, [],
 use Rattle.std.specs.Int.{w32, cast_signed, cast_unsigned}
 use Rattle.byteorder.specs.Endian.{little_number}
 use Rattle.bson_doc.specs.declared.value.Document.{Document}
-use Rattle.bson_wire.specs.Spelling.{IsNumber32, IsName, Spells}
-use Rattle.bson_wire.specs.Spelled.{number32, spelled}
+use Rattle.bson_doc.specs.wire.Spelling.{IsNumber32, IsName, Spells}
+use Rattle.bson_doc.specs.wire.Spelled.{number32, spelled}
 use Rattle.msg_wire.specs.Flags.{refused_bit, checksum_size}
 use Rattle.msg_wire.specs.Limits.{most_message, op_msg}
 use Rattle.msg_wire.specs.declared.message.Message.{Message}

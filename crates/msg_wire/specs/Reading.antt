@@ -2,11 +2,11 @@
 -- faults, their order and their places are own).
 use Rattle.std.specs.Prelude.{ℕ, Bool, not, ◌&&◌, ◌==◌, List, length, take, drop, Option, Some, None, Result, Ok, Err, nat_lt, nat_le, if◌then◌else◌}
 use Rattle.std.specs.Int.{w32, cast_signed}
+use Rattle.bson_doc.specs.Steps.{◌>>=◌, fault_of}
 pub use Rattle.msg_wire.specs.Fields.{number_at, signed_at}
 use Rattle.msg_wire.specs.Flags.{refused_bit, checksum_size}
 use Rattle.msg_wire.specs.Limits.{least_message, most_message, op_msg}
 use Rattle.msg_wire.specs.Sections.{sections_at}
-use Rattle.msg_wire.specs.Steps.{◌>>=◌, fault_of}
 use Rattle.msg_wire.specs.declared.fault.MsgFault.{MsgFault}
 use Rattle.msg_wire.specs.declared.fault.MsgFault.TheVariants as fault
 use Rattle.msg_wire.specs.declared.message.Message.{Message}

@@ -4,13 +4,14 @@
 -- least; it is more than the bytes, so the case without fuel is never reached, and what it answers is not seen.
 use Rattle.std.specs.Prelude.{ℕ, zero, suc, ◌-◌, Bool, ◌||◌, List, [], ◌∷◌, length, take, drop, Option, Some, None, is_some, Result, Ok, Err, nat_lt, nat_le, if◌then◌else◌}
 use Rattle.std.specs.Str.{is_utf8}
+use Rattle.bson_doc.specs.Steps.{◌>>=◌, or_fault}
 use Rattle.bson_doc.specs.declared.value.Document.{Document}
 use Rattle.bson_doc.specs.declared.bson_fault.BsonFault.{BsonFault}
 use Rattle.bson_doc.specs.declared.bson_fault.BsonFault.TheVariants as bson_fault
-use Rattle.bson_wire.specs.Reading.{until_zero}
-use Rattle.bson_wire.specs.Reading as documents
+use Rattle.bson_doc.specs.wire.Reading.{until_zero}
+use Rattle.bson_doc.specs.wire.Reading as documents
 use Rattle.msg_wire.specs.Fields.{number_at}
-use Rattle.msg_wire.specs.Steps.{◌>>=◌, Read, or_fault}
+use Rattle.msg_wire.specs.Steps.{Read}
 use Rattle.msg_wire.specs.declared.fault.MsgFault.{MsgFault}
 use Rattle.msg_wire.specs.declared.fault.MsgFault.TheVariants as fault
 use Rattle.msg_wire.specs.declared.section.Section.{Section}

@@ -3,8 +3,8 @@
 ghost use Rattle.std.specs.Prelude.{◌≡◌, ◌≢◌, ◌↔◌, ◌<◌, ◌≤◌, ◌^◌, ℕ, ℤ, List, [], ◌∷◌, ◌++◌, length, take, false, Some, None, Ok, FitsSigned};
 ghost use Rattle.std.specs.Int.{w32};
 ghost use Rattle.bson_doc.specs.declared.value.Document.{Document};
-ghost use Rattle.bson_wire.specs.Spelling.{Spells};
-ghost use Rattle.bson_wire.specs.Spelled.{spelled};
+ghost use Rattle.bson_doc.specs.wire.Spelling.{Spells};
+ghost use Rattle.bson_doc.specs.wire.Spelled.{spelled};
 ghost use Rattle.msg_wire.specs.Asking.{AsksFor, IsWhole};
 ghost use Rattle.msg_wire.specs.Flags.{refused_bit, is_set};
 ghost use Rattle.msg_wire.specs.Framing.{Framed, frame, message_of};

@@ -1,8 +1,8 @@
 ghost use Rattle.std.specs.Prelude.{◌≡◌, ◌+◌, ◌≤◌, ◌<◌, [], ◌∷◌, ◌++◌, length, false, None, Err, IfOk, OnOk, IfErr};
 ghost use Rattle.std.specs.Int.{w32, cast_unsigned};
 ghost use Rattle.bson_doc.specs.Documents.{depth_of};
-ghost use Rattle.bson_wire.specs.Limits.{most_levels};
-ghost use Rattle.bson_wire.specs.Spelled.{number32};
+ghost use Rattle.bson_doc.specs.wire.Limits.{most_levels};
+ghost use Rattle.bson_doc.specs.wire.Spelled.{number32};
 ghost use Rattle.msg_wire.specs.Flags.{refused_bit, is_set};
 ghost use Rattle.msg_wire.specs.Framing.{Framed, frame, header, message_of};
 ghost use Rattle.msg_wire.specs.Limits.{most_message};

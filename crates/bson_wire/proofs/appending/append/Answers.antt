@@ -1,6 +1,6 @@
 use Rattle.std.proofs.Common.{◌≤◌, refl, arith}
 use Rattle.bson_doc.specs.Documents.{depth_of}
-use Rattle.bson_wire.specs.Spelled.{spelled}
+use Rattle.bson_doc.specs.wire.Spelled.{spelled}
 use Rattle.bson_wire.proofs.Written.{outermost_spells}
 use Rattle.bson_wire.proofs.appending.append.Goals as goal
 

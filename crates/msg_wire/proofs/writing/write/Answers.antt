@@ -1,7 +1,7 @@
 use Rattle.std.proofs.Common.{◌≡◌, ◌≤◌, ◌<◌, ◌++◌, length, sym, ap, ◌∙◌, subst, arith}
 use Rattle.std.specs.Int.{w32}
 use Rattle.std.proofs.lemmas.Int.{to_z-of_z}
-use Rattle.bson_wire.specs.Spelled.{spelled}
+use Rattle.bson_doc.specs.wire.Spelled.{spelled}
 use Rattle.msg_wire.specs.Framing.{Framed, frame, message_of}
 use Rattle.msg_wire.specs.Limits.{most_message}
 use Rattle.msg_wire.proofs.Framings.{Framed-frame, frame-fits, frame-long, frame-parts, size-fits}

@@ -2,6 +2,7 @@
 use Rattle.std.proofs.Common.{◌≡◌, ◌≢◌, ◌≤◌, ℕ, List, ◌++◌, length, take, Some, None, Result, Ok, Err, IfOk, IfErr, OnOk, MatchResult, refl, ap, ◌∙◌}
 use Rattle.bson_doc.specs.Steps.{fault_of}
 use Rattle.bson_doc.proofs.Steps.{Fails-Err, Fails-Ok}
+use Rattle.bson_doc.specs.declared.bson_fault.BsonFault.TheVariants as bson_fault
 use Rattle.msg_wire.specs.Asking.{IsWhole}
 use Rattle.msg_wire.specs.Framing.{Framed}
 use Rattle.msg_wire.specs.Reading.{read, flaw}
@@ -10,6 +11,7 @@ use Rattle.msg_wire.specs.declared.fault.MsgFault.{MsgFault}
 use Rattle.msg_wire.specs.declared.fault.MsgFault.TheVariants as fault
 use Rattle.msg_wire.specs.declared.message.Message.{Message}
 use Rattle.msg_wire.proofs.Asked as asked
+use Rattle.msg_wire.proofs.PlaceLemmas.{of_bytes}
 use Rattle.msg_wire.proofs.Whole as whole
 
 abbrev Answer : Type 0
@@ -32,6 +34,13 @@ pub flawed : (bytes : List ℕ) (a : Answer) → Gives (λ m. m) a (read bytes) 
 unfolding flaw
 flawed bytes (Ok m) h = tt
 flawed bytes (Err e) h = λ other. ap fault_of (Fails-Err fault.Memory e (read bytes) h other)
+
+-- No fault is that memory ran out inside a document.
+pub not_inside : (bytes : List ℕ) (a : Answer) → Gives (λ m. m) a (read bytes) → (at : ℕ) → a ≢ Err (fault.Body at bson_fault.Memory)
+not_inside bytes (Ok m) h at e = cc
+not_inside bytes (Err f) h at e =
+    let same : f ≡ fault.Body at bson_fault.Memory = cc in
+    of_bytes bytes (fault.Body at bson_fault.Memory) (flawed bytes (Err f) h (λ memory. cc) ∙ ap Some same) refl
 
 pub all_of_it : (bytes : List ℕ) (a : Answer) → Gives (λ m. m) a (read bytes) → IsWhole bytes → MatchResult a (λ m. Framed bytes m) (λ e. (n : ℕ) → e ≢ fault.Short n)
 all_of_it bytes (Ok m) h is_whole = asked.all_of_it bytes is_whole m.length m (whole.read_takes bytes m h).1

@@ -1,9 +1,13 @@
--- What stands behind the header has no fault of the header, and its faults lie inside the message.
-use Rattle.std.proofs.Common.{◌≤◌, ℕ, zero, suc, ◌-◌, Bool, true, false, cond, ltb, leb, ◌||◌, List, [], ◌∷◌, length, take, drop, Option, Some, is_some, Result, Ok, Err, IfErr, arith}
-use Rattle.bson_doc.specs.Steps.{or_fault}
+-- Sections have no fault of the header or of flagBits, and their faults lie inside the message.
+use Rattle.std.proofs.Common.{◌≡◌, ◌≢◌, ◌≤◌, ℕ, zero, suc, ◌-◌, Bool, true, false, cond, ltb, leb, ◌||◌, List, [], ◌∷◌, length, take, drop, Option, Some, is_some, Result, Ok, Err, IfErr, refl, ap, subst, arith}
+use Rattle.bson_doc.specs.Steps.{fault_of, or_fault}
+use Rattle.bson_doc.specs.declared.bson_fault.BsonFault.{BsonFault}
+use Rattle.bson_doc.specs.declared.bson_fault.BsonFault.TheVariants as bson_fault
 use Rattle.bson_doc.specs.declared.value.Document.{Document}
+use Rattle.bson_doc.specs.wire.Meaning.{Means}
+use Rattle.bson_doc.proofs.wire.Meanings.{means}
 use Rattle.bson_doc.proofs.Steps.{IfErr-bind, IfErr-cond, IfErr-or_fault}
-use Rattle.bson_doc.specs.wire.Reading.{until_zero}
+use Rattle.bson_doc.specs.wire.Reading.{flaw, until_zero}
 use Rattle.bson_doc.specs.wire.Reading as documents
 use Rattle.msg_wire.specs.Fields.{number_at}
 use Rattle.msg_wire.specs.Sections.{Held, closed_at, document_at, documents_at, name_at, section_at, sections_at, sequence_at, size_at, text_at, with_section}
@@ -12,19 +16,27 @@ use Rattle.msg_wire.specs.declared.fault.MsgFault.TheVariants as fault
 use Rattle.msg_wire.specs.declared.section.Section.{Section}
 use Rattle.msg_wire.specs.declared.section.Section.TheVariants as section
 
--- A fault of what stands behind the header of a message of so many bytes.
+-- A fault of the sections of a message of so many bytes.
 abbrev pub IsBehind : ℕ → MsgFault → Type 0
 IsBehind end (fault.Short need) = ⊥
 IsBehind end (fault.Length got) = ⊥
 IsBehind end (fault.Opcode got) = ⊥
-IsBehind end (fault.Flags bit) = Unit {0}
+IsBehind end (fault.Flags bit) = ⊥
 IsBehind end (fault.Sections at) = at ≤ end
-IsBehind end (fault.Body at inner) = at ≤ end
-IsBehind end fault.Memory = Unit {0}
+IsBehind end (fault.Body at inner) = (at ≤ end) × (inner ≢ bson_fault.Memory)
+IsBehind end fault.Memory = ⊥
 
-IsBehind-document_at : (end place : ℕ) (read : documents.Read Document) → place ≤ end → IfErr (document_at place read) (IsBehind end)
-IsBehind-document_at end place (Ok x) inside = tt
-IsBehind-document_at end place (Err e) inside = inside
+-- No reading of a document meets want of memory.
+not_memory : (bytes : List ℕ) (e : BsonFault) → documents.read bytes ≡ Err e → e ≢ bson_fault.Memory
+unfolding flaw
+not_memory bytes e read memory = subst (Means bytes) memory (means bytes e (ap fault_of read))
+
+IsBehind-result : (end place : ℕ) (read : documents.Read Document) → place ≤ end → ((e : BsonFault) → read ≡ Err e → e ≢ bson_fault.Memory) → IfErr (document_at place read) (IsBehind end)
+IsBehind-result end place (Ok x) inside other = tt
+IsBehind-result end place (Err e) inside other = (inside, other e refl)
+
+IsBehind-document_at : (end place : ℕ) (bytes : List ℕ) → place ≤ end → IfErr (document_at place (documents.read bytes)) (IsBehind end)
+IsBehind-document_at end place bytes inside = IsBehind-result end place (documents.read bytes) inside (not_memory bytes)
 
 IsBehind-documents_at : (fuel end : ℕ) (bytes : List ℕ) → IfErr (documents_at fuel end bytes) (IsBehind end)
 unfolding documents_at
@@ -33,7 +45,7 @@ IsBehind-documents_at (suc fuel) end [] = tt
 IsBehind-documents_at (suc fuel) end (byte ∷ bytes) =
     let place : ℕ = end - length (byte ∷ bytes) in
     let inside : place ≤ end = omega arith in
-    IfErr-bind (IsBehind end) (document_at place (documents.read (byte ∷ bytes))) _ (IsBehind-document_at end place (documents.read (byte ∷ bytes)) inside)
+    IfErr-bind (IsBehind end) (document_at place (documents.read (byte ∷ bytes))) _ (IsBehind-document_at end place (byte ∷ bytes) inside)
     (λ first. IfErr-bind (IsBehind end) (documents_at fuel end first.1) _ (IsBehind-documents_at fuel end first.1) (λ others. tt))
 
 -- A fault inside a part of the message.
@@ -42,10 +54,10 @@ IsBehind-less end less (Ok x) fewer h = tt
 IsBehind-less end less (Err (fault.Short need)) fewer h = h
 IsBehind-less end less (Err (fault.Length got)) fewer h = h
 IsBehind-less end less (Err (fault.Opcode got)) fewer h = h
-IsBehind-less end less (Err (fault.Flags bit)) fewer h = tt
+IsBehind-less end less (Err (fault.Flags bit)) fewer h = h
 IsBehind-less end less (Err (fault.Sections at)) fewer h = omega (arith, fewer, h)
-IsBehind-less end less (Err (fault.Body at inner)) fewer h = omega (arith, fewer, h)
-IsBehind-less end less (Err fault.Memory) fewer h = tt
+IsBehind-less end less (Err (fault.Body at inner)) fewer h = (omega (arith, fewer, h.0), h.1)
+IsBehind-less end less (Err fault.Memory) fewer h = h
 
 IsBehind-inner : (fuel end behind : ℕ) (bytes : List ℕ) → IfErr (documents_at fuel (end - behind) bytes) (IsBehind end)
 IsBehind-inner fuel end behind bytes = IsBehind-less end (end - behind) (documents_at fuel (end - behind) bytes) (omega arith) (IsBehind-documents_at fuel (end - behind) bytes)
@@ -85,7 +97,7 @@ IsBehind-section_at found end [] = omega arith
 IsBehind-section_at true end (zero ∷ rest) = omega arith
 IsBehind-section_at false end (zero ∷ rest) =
     let inside : end - length rest ≤ end = omega arith in
-    IfErr-bind (IsBehind end) (document_at (end - length rest) (documents.read rest)) _ (IsBehind-document_at end (end - length rest) (documents.read rest) inside) (λ x. tt)
+    IfErr-bind (IsBehind end) (document_at (end - length rest) (documents.read rest)) _ (IsBehind-document_at end (end - length rest) rest inside) (λ x. tt)
 IsBehind-section_at found end (suc zero ∷ rest) = IfErr-bind (IsBehind end) (sequence_at end rest) _ (IsBehind-sequence_at end rest) (λ x. tt)
 IsBehind-section_at found end (suc (suc kind) ∷ rest) = omega arith
 

@@ -9,13 +9,14 @@ ghost use Rattle.msg_wire.specs.Asking.{AsksFor, IsWhole};
 ghost use Rattle.msg_wire.specs.Flags.{refused_bit, is_set};
 ghost use Rattle.msg_wire.specs.Framing.{Framed, frame, message_of};
 ghost use Rattle.msg_wire.specs.Fronts.{IsFront};
-ghost use Rattle.msg_wire.specs.Limits.{least_message, most_message};
+ghost use Rattle.msg_wire.specs.Limits.{least_message, most_message, op_msg};
 ghost use Rattle.msg_wire.specs.Messages.{Begins, IsParted, behind_messages, messages};
-ghost use Rattle.msg_wire.specs.Places.{place_of};
-ghost use Rattle.msg_wire.specs.Reading.{need_of, read, flaw};
+ghost use Rattle.msg_wire.specs.Places.{flag_bits_at, message_length_at, op_code_at, place_of};
+ghost use Rattle.msg_wire.specs.Reading.{number_at, signed_at, need_of, read, flaw};
 ghost use Rattle.msg_wire.specs.declared.message.Message.{Message};
 
 use crate::MsgFault;
+use bson_wire::BsonFault;
 
 /// Bytes frame at most one message.
 pub fn one_message()
@@ -93,6 +94,17 @@ pub fn all_of_it()
     ensures settled { (bytes : List ℕ) (n : ℕ) → IsWhole bytes → flaw bytes ≢ Some (MsgFault.Short n) }
 {}
 
+/// What a fault of the header or of flagBits says of the number at its place: that it is no length of a message, that it
+/// is another opCode, or that the bit is the lowest that refuses it.
+pub fn header_faults()
+    ensures length { (bytes : List ℕ) (got : ℤ) → flaw bytes ≡ Some (MsgFault.Length got)
+        → (need_of bytes ≡ None) × (got ≡ signed_at message_length_at bytes) }
+    ensures opcode { (bytes : List ℕ) (got : ℤ) → flaw bytes ≡ Some (MsgFault.Opcode got)
+        → (number_at op_code_at bytes ≢ op_msg) × (got ≡ signed_at op_code_at bytes) }
+    ensures flags { (bytes : List ℕ) (bit : ℕ) → flaw bytes ≡ Some (MsgFault.Flags bit)
+        → refused_bit (number_at flag_bits_at bytes) ≡ Some bit }
+{}
+
 /// Every place that a fault names lies inside the bytes, and inside the message's length where that is in its range. It is
 /// the end of them only where the sections end, or where a document is missing.
 pub fn places()
@@ -100,6 +112,12 @@ pub fn places()
         → flaw bytes ≡ Some fault → place_of fault ≡ Some at → at ≤ length bytes }
     ensures message { (bytes : List ℕ) (fault : MsgFault) (at n : ℕ)
         → flaw bytes ≡ Some fault → place_of fault ≡ Some at → need_of bytes ≡ Some n → at ≤ n }
+{}
+
+/// That memory ran out is no fault of bytes, also inside a document.
+pub fn not_memory()
+    ensures outside { (bytes : List ℕ) → flaw bytes ≢ Some MsgFault.Memory }
+    ensures inside { (bytes : List ℕ) (at : ℕ) → flaw bytes ≢ Some (MsgFault.Body at BsonFault.Memory) }
 {}
 
 /// Bytes have exactly one parting into the messages at their front and the rest, and `messages` gives it.

@@ -4,3 +4,4 @@ pub mod PlainValues
 pub mod Documents
 pub mod Outermost
 pub mod Ahead
+pub mod Meanings

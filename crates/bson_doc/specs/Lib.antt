@@ -1,4 +1,5 @@
 pub mod Documents
+pub mod Ids
 pub mod Names
 pub mod Room
 pub mod Steps

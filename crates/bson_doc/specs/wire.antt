@@ -3,3 +3,4 @@ pub mod Kinds
 pub mod Spelling
 pub mod Spelled
 pub mod Reading
+pub mod Meaning

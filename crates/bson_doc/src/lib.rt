@@ -23,6 +23,7 @@ mod ids;
 mod kind;
 mod name;
 mod rows;
+mod same;
 #[cfg(test)]
 mod tests;
 mod text;
@@ -34,8 +35,9 @@ pub use buffer::Buffer;
 pub use cluster_time::ClusterTime;
 pub use ids::{Lsid, Oid};
 pub use kind::{Kind, PlainKind};
-pub use name::{HasNul, Name};
+pub use name::{HasNul, Name, NameFault, first_zero};
 pub use rows::{Bytes, Rows};
+pub use same::same_bytes;
 pub use text::Text;
 pub use topology_version::TopologyVersion;
 pub use value::{Document, Value, is_one};

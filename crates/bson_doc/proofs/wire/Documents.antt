@@ -24,7 +24,7 @@ use Rattle.bson_doc.proofs.wire.PlainValues.{plain_takes, plain_again}
 abbrev pub Reader : Type 0
 Reader = ℕ → List ℕ → Read Document
 
-abbrev Element : Type 0
+abbrev pub Element : Type 0
 Element = Name × Value
 
 -- the document of some elements
@@ -246,12 +246,12 @@ or_fault-Some f None kind e = absurd cc
 or_fault-Some f (Some k) kind e = ap (λ (x : Kind). Some x) (ok_is k kind e)
 
 -- what was taken for an element, its type byte in front
-record TakesElement (Inner : List ℕ → Document → Type 0) (bytes : List ℕ) (e : Element) (rest : List ℕ) : Type 0 where
-  text : List ℕ
-  parts : bytes ≡ text ++ rest
-  is : IsElement Inner text e
+pub record TakesElement (Inner : List ℕ → Document → Type 0) (bytes : List ℕ) (e : Element) (rest : List ℕ) : Type 0 where
+  pub text : List ℕ
+  pub parts : bytes ≡ text ++ rest
+  pub is : IsElement Inner text e
 
-element_takes : (R : Reader) (Inner : List ℕ → Document → Type 0) → TakesAll R Inner → (start end byte : ℕ) (bytes : List ℕ) (x : Element × List ℕ) → element_at R start end byte bytes ≡ Ok x → TakesElement Inner (byte ∷ bytes) x.0 x.1
+pub element_takes : (R : Reader) (Inner : List ℕ → Document → Type 0) → TakesAll R Inner → (start end byte : ℕ) (bytes : List ℕ) (x : Element × List ℕ) → element_at R start end byte bytes ≡ Ok x → TakesElement Inner (byte ∷ bytes) x.0 x.1
 unfolding element_at
 element_takes R Inner takes start end byte bytes x e =
     let at : ℕ = end - length bytes - 1 in

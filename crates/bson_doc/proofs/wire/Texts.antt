@@ -11,10 +11,9 @@ use Rattle.std.proofs.lemmas.List.Quantifiers.{position-Some}
 use Rattle.std.proofs.lemmas.List.Sums.{position_or_len_is, fails_before_first}
 use Rattle.std.proofs.lemmas.Str.{is_utf8-from_IsUtf8, IsUtf8-from_is_utf8}
 use Rattle.bson_doc.specs.Names.{HasNoZero}
-use Rattle.bson_doc.specs.declared.bson_fault.BsonFault.{BsonFault}
 use Rattle.bson_doc.specs.declared.bson_fault.BsonFault.TheVariants as fault
 use Rattle.bson_doc.specs.wire.Reading.{text_at, until_zero}
-use Rattle.bson_doc.proofs.Steps.{ok_is, pass_ok}
+use Rattle.bson_doc.proofs.Steps.{pass_ok}
 
 pub text_at-utf8 : (at : ℕ) (bytes : List ℕ) → IsUtf8 bytes → text_at at bytes ≡ Ok bytes
 unfolding text_at

@@ -1,7 +1,7 @@
 -- Reading from left to right, with the first fault that is met and its place (bsonspec 1.1; own: the names of the faults
 -- and their places, since the standard names none). A reader of elements is given `start`, the place of the length of
 -- their document, and `end`, the place where the bytes end, so that what is left begins at `end - length bytes`.
-use Rattle.std.specs.Prelude.{◌≡◌, ℕ, zero, suc, ◌+◌, ◌-◌, ℤ, true, false, ◌||◌, List, [], ◌∷◌, length, take, drop, Option, Some, None, Result, Ok, Err, nat_lt, ◌==◌, position, if◌then◌else◌}
+use Rattle.std.specs.Prelude.{ℕ, zero, suc, ◌+◌, ◌-◌, ℤ, true, false, ◌||◌, List, [], ◌∷◌, length, take, drop, Option, Result, Ok, Err, nat_lt, ◌==◌, position, if◌then◌else◌}
 use Rattle.std.specs.Str.{is_utf8}
 use Rattle.std.specs.Str.Lossy.{utf8_valid_len}
 use Rattle.std.specs.Option.{option_map}
@@ -215,15 +215,19 @@ document_at zero end bytes = Err (fault.Deep (end - length bytes))
 document_at (suc levels) end bytes =
     length_at 5 4 end bytes >>= (λ n. body_at (document_at levels) (end - length bytes) n.0 n.1)
 
--- The outermost document (own: a total from 5 to 48,000,000 that is more than the bytes given is Short, not a fault of
--- the bytes).
-unfoldable pub read : List ℕ → Read Document
-read bytes =
+-- The total of the outermost document, where all that it counts is there (own: a total from 5 to 48,000,000 that is
+-- more than the bytes given is Short, not a fault of the bytes).
+unfoldable pub total_at : List ℕ → Result ℕ BsonFault
+total_at bytes =
     if nat_lt (length bytes) 4 then Err fault.Short else
     let n = little_number 4 (take 4 bytes) in
     if nat_lt n 5 || nat_lt most_bytes n then Err (fault.Length 0) else
     if nat_lt (length bytes) n then Err fault.Short else
-    body_at (document_at (most_levels - 1)) 0 n (drop 4 bytes)
+    Ok n
+
+-- The outermost document, and the bytes behind it. The total is looked at before all else.
+unfoldable pub read : List ℕ → Read Document
+read bytes = total_at bytes >>= (λ n. body_at (document_at (most_levels - 1)) 0 n (drop 4 bytes))
 
 -- The first fault of the bytes, and none where they begin with a document.
 unfoldable pub flaw : List ℕ → Option BsonFault

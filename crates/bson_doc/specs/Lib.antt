@@ -1,4 +1,7 @@
 pub mod Documents
+pub mod Ids
 pub mod Names
 pub mod Room
+pub mod Steps
 pub mod formers
+pub mod wire

@@ -1,14 +1,14 @@
 //! Documents, arrays and code with a scope, and the values, elements and bodies inside them. Each reader goes from the left to the right.
 
 ghost use Rattle.std.specs.Prelude.{ℕ, ◌≡◌, ◌≤◌, ◌+◌, ◌-◌, ◌<◌, length, take, drop, IfOk};
-ghost use Rattle.bson_wire.specs.Reading.{Gives, unnamed_element, unnamed_elements, unnamed_document, kind_at, value_at, scope_at, element_at, elements_at, body_at, document_at};
+ghost use Rattle.bson_doc.specs.wire.Limits.{most_bytes};
+ghost use Rattle.bson_doc.specs.wire.Reading.{Gives, unnamed_element, unnamed_elements, unnamed_document, kind_at, value_at, scope_at, element_at, elements_at, body_at, document_at};
 
 use crate::BsonFault;
-use crate::kind::Kind;
 use crate::parts::{length_of, name_of, place, string_of, taken_name, zero_of};
 use crate::plain::plain_of;
 use crate::span::Span;
-use bson_doc::{Document, Name, Rows, Text, Value};
+use bson_doc::{Document, Kind, Name, Rows, Text, Value};
 use std::alloc::Global;
 
 /// The elements of a document of that total and the bytes from its last one on, of the bytes behind its length.
@@ -35,7 +35,7 @@ fn kind_of(start: u32, at: u32, byte: u8) -> Result<Kind, BsonFault>
 
 /// A document inside another, where so many levels are left.
 #[cycle(reading)]
-#[tactic(auto, unfolding(crate::specs::Reading::document_at))]
+#[tactic(auto, unfolding(bson_doc::specs::wire::Reading::document_at))]
 fn document_of(
     alloc: Global,
     levels: u32,
@@ -43,7 +43,7 @@ fn document_of(
     bytes: &[u8],
 ) -> Result<(Document, &[u8]), BsonFault>
     requires within { length bytes.now ≤ end }
-    requires small { end ≤ 48000000 }
+    requires small { end ≤ most_bytes }
     ensures gives { Gives (λ x. (x.0, x.1.now)) result (document_at levels end bytes.now) }
     ensures rest { IfOk result (λ x. length x.1.now ≤ length bytes.now) }
 {
@@ -57,7 +57,7 @@ fn document_of(
 
 /// What stands behind the length field of a document.
 #[cycle(reading)]
-#[tactic(auto, unfolding(crate::specs::Reading::body_at))]
+#[tactic(auto, unfolding(bson_doc::specs::wire::Reading::body_at))]
 pub fn body_of(
     alloc: Global,
     levels: u32,
@@ -67,7 +67,7 @@ pub fn body_of(
 ) -> Result<(Document, &[u8]), BsonFault>
     requires least { 5 ≤ total }
     requires within { total ≤ length bytes.now + 4 }
-    requires small { start + total ≤ 48000000 }
+    requires small { start + total ≤ most_bytes }
     ensures gives { Gives (λ x. (x.0, x.1.now)) result
         (body_at (document_at levels) start total bytes.now) }
     ensures rest { IfOk result (λ x. length x.1.now ≤ length bytes.now) }
@@ -87,7 +87,7 @@ fn elements_of(
     bytes: &[u8],
 ) -> Result<Rows<(Name, Value)>, BsonFault>
     requires within { length bytes.now ≤ span.end }
-    requires small { span.end ≤ 48000000 }
+    requires small { span.end ≤ most_bytes }
     ensures { (fuel : ℕ) → length bytes.now ≤ fuel
         → Gives (λ x. x) result (elements_at (document_at levels) fuel span.start span.end bytes.now) }
 {
@@ -103,7 +103,7 @@ fn elements_of(
 
 /// What stands behind a type byte: a name and a value.
 #[cycle(reading)]
-#[tactic(auto, unfolding(crate::specs::Reading::element_at))]
+#[tactic(auto, unfolding(bson_doc::specs::wire::Reading::element_at))]
 fn element_of(
     alloc: Global,
     levels: u32,
@@ -112,7 +112,7 @@ fn element_of(
     bytes: &[u8],
 ) -> Result<((Name, Value), &[u8]), BsonFault>
     requires within { length bytes.now < span.end }
-    requires small { span.end ≤ 48000000 }
+    requires small { span.end ≤ most_bytes }
     ensures gives { Gives (λ x. (x.0, x.1.now)) result
         (element_at (document_at levels) span.start span.end byte bytes.now) }
     ensures rest { IfOk result (λ x. length x.1.now ≤ length bytes.now) }
@@ -126,7 +126,7 @@ fn element_of(
 
 /// A value of a kind.
 #[cycle(reading)]
-#[tactic(auto, unfolding(crate::specs::Reading::value_at))]
+#[tactic(auto, unfolding(bson_doc::specs::wire::Reading::value_at))]
 fn value_of(
     alloc: Global,
     levels: u32,
@@ -135,7 +135,7 @@ fn value_of(
     bytes: &[u8],
 ) -> Result<(Value, &[u8]), BsonFault>
     requires within { length bytes.now ≤ span.end }
-    requires small { span.end ≤ 48000000 }
+    requires small { span.end ≤ most_bytes }
     ensures gives { Gives (λ x. (x.0, x.1.now)) result
         (value_at (document_at levels) span.start span.end kind bytes.now) }
     ensures rest { IfOk result (λ x. length x.1.now ≤ length bytes.now) }
@@ -159,7 +159,7 @@ fn value_of(
 
 /// Code with the values of its names: a string and a document, which end where the total says.
 #[cycle(reading)]
-#[tactic(auto, unfolding(crate::specs::Reading::scope_at, crate::specs::Reading::inside_scope_at))]
+#[tactic(auto, unfolding(bson_doc::specs::wire::Reading::scope_at, bson_doc::specs::wire::Reading::inside_scope_at))]
 fn scope_of(
     alloc: Global,
     levels: u32,
@@ -167,7 +167,7 @@ fn scope_of(
     bytes: &[u8],
 ) -> Result<((Text, Document), &[u8]), BsonFault>
     requires within { length bytes.now ≤ end }
-    requires small { end ≤ 48000000 }
+    requires small { end ≤ most_bytes }
     ensures gives { Gives (λ x. (x.0, x.1.now)) result (scope_at (document_at levels) end bytes.now) }
     ensures rest { IfOk result (λ x. length x.1.now ≤ length bytes.now) }
 {
@@ -185,7 +185,7 @@ fn scope_of(
 
 /// An array inside a document, where so many levels are left.
 #[cycle(reading)]
-#[tactic(auto, unfolding(crate::specs::Reading::document_at))]
+#[tactic(auto, unfolding(bson_doc::specs::wire::Reading::document_at))]
 fn array_of(
     alloc: Global,
     levels: u32,
@@ -193,7 +193,7 @@ fn array_of(
     bytes: &[u8],
 ) -> Result<(Rows<Value>, &[u8]), BsonFault>
     requires within { length bytes.now ≤ end }
-    requires small { end ≤ 48000000 }
+    requires small { end ≤ most_bytes }
     ensures gives { Gives (λ x. (x.0, x.1.now)) result
         (unnamed_document (document_at levels end bytes.now)) }
     ensures rest { IfOk result (λ x. length x.1.now ≤ length bytes.now) }
@@ -217,7 +217,7 @@ fn array_body_of(
 ) -> Result<(Rows<Value>, &[u8]), BsonFault>
     requires least { 5 ≤ total }
     requires within { total ≤ length bytes.now + 4 }
-    requires small { start + total ≤ 48000000 }
+    requires small { start + total ≤ most_bytes }
     ensures gives { Gives (λ x. (x.0, x.1.now)) result
         (unnamed_document (body_at (document_at levels) start total bytes.now)) }
     ensures rest { IfOk result (λ x. length x.1.now ≤ length bytes.now) }
@@ -232,7 +232,7 @@ fn array_body_of(
 #[cycle(reading)]
 fn items_of(alloc: Global, levels: u32, span: Span, bytes: &[u8]) -> Result<Rows<Value>, BsonFault>
     requires within { length bytes.now ≤ span.end }
-    requires small { span.end ≤ 48000000 }
+    requires small { span.end ≤ most_bytes }
     ensures { (fuel : ℕ) → length bytes.now ≤ fuel
         → Gives (λ x. x) result
         (unnamed_elements (elements_at (document_at levels) fuel span.start span.end bytes.now)) }
@@ -249,7 +249,7 @@ fn items_of(alloc: Global, levels: u32, span: Span, bytes: &[u8]) -> Result<Rows
 
 /// What stands behind a type byte in an array: a name, which is not kept, and a value.
 #[cycle(reading)]
-#[tactic(auto, unfolding(crate::specs::Reading::element_at))]
+#[tactic(auto, unfolding(bson_doc::specs::wire::Reading::element_at))]
 fn item_of(
     alloc: Global,
     levels: u32,
@@ -258,7 +258,7 @@ fn item_of(
     bytes: &[u8],
 ) -> Result<(Value, &[u8]), BsonFault>
     requires within { length bytes.now < span.end }
-    requires small { span.end ≤ 48000000 }
+    requires small { span.end ≤ most_bytes }
     ensures gives { Gives (λ x. (x.0, x.1.now)) result
         (unnamed_element (element_at (document_at levels) span.start span.end byte bytes.now)) }
     ensures rest { IfOk result (λ x. length x.1.now ≤ length bytes.now) }

@@ -19,7 +19,7 @@ mod documents;
 mod fault;
 mod fields;
 mod flags;
-mod laws;
+pub mod laws;
 mod limits;
 mod message;
 mod reading;
@@ -34,10 +34,6 @@ mod tests;
 mod writing;
 
 pub use fault::MsgFault;
-pub use laws::{
-    all_of_it, at_least, enough, flawless, frames, header_first, no_prefix, one_message,
-    read_again, settled, short, still_short,
-};
 pub use message::Message;
 pub use reading::{need, read};
 pub use sequence::Sequence;

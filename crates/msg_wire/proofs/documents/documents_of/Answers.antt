@@ -1,14 +1,14 @@
 use Rattle.std.proofs.Common.{◌≡◌, ◌<◌, length, arith}
 use Rattle.std.proofs.lemmas.Bool.Decides.{nat_tests}
 use Rattle.std.proofs.lemmas.Result.{err_from_is_err_and}
+use Rattle.bson_doc.proofs.Steps.{bind-Ok}
 use Rattle.msg_wire.proofs.DocumentLists.{goes_on, stops, is_done}
-use Rattle.msg_wire.proofs.Steps.{bind-Ok}
 use Rattle.msg_wire.proofs.documents.documents_of.Goals as goal
 
 pub loop-rest-init : goal.loop-rest-init
 loop-rest-init c = record {
   within = c.requires;
-  goes_on = λ fuel lt. (fuel, lt, rw c.new-docs.ensures (bind-Ok _));
+  goes_on = λ fuel lt. (fuel, lt, rw c.new-docs.ensures.empty (bind-Ok _));
 }
 
 pub returns-in_err-document : goal.returns-in_err-document

@@ -6,7 +6,7 @@ use Rattle.net_link.proofs.script_net.ScriptNetNet.read.Goals as goal
 pub give-requires-clause-front : goal.give-requires-clause-front
 give-requires-clause-front c =
     let line = line_at c.args.self.now.lines c.args.stream in
-    let copied : c.in-Ok-take.bytes ≡ c.front-front.result.now = c.in-Ok-take.ensures in
+    let copied : c.in-Ok-take.bytes ≡ c.front-front.result.now = c.in-Ok-take.ensures.value in
     rw (copied, c.front-front.ensures) (take-length-take (piece_size (length c.args.into.now) line) line.left)
 
 pub returns-then-not-is_empty-clause-keeps : goal.returns-then-not-is_empty-clause-keeps
@@ -18,7 +18,7 @@ returns-then-not-is_empty-clause-told c = rw c.give.ensures.state (Adds-read c.a
 pub returns-then-not-is_empty-clause-inbox : goal.returns-then-not-is_empty-clause-inbox
 returns-then-not-is_empty-clause-inbox c =
     let line = line_at c.args.self.now.lines c.args.stream in
-    let copied : c.in-Ok-take.bytes ≡ c.front-front.result.now = c.in-Ok-take.ensures in
+    let copied : c.in-Ok-take.bytes ≡ c.front-front.result.now = c.in-Ok-take.ensures.value in
     let front : c.in-Ok-take.bytes ≡ take (length c.in-Ok-take.bytes) line.left =
     rw (copied, c.front-front.ensures) (take-length-take (piece_size (length c.args.into.now) line) line.left) in
     let given = IsLive-below c.args.self.now.lines c.args.stream c.requires.is_open in
@@ -26,7 +26,7 @@ returns-then-not-is_empty-clause-inbox c =
 
 pub returns-then-not-is_empty-clause-most : goal.returns-then-not-is_empty-clause-most
 returns-then-not-is_empty-clause-most c n got =
-    let copied : c.in-Ok-take.bytes ≡ c.front-front.result.now = c.in-Ok-take.ensures in
+    let copied : c.in-Ok-take.bytes ≡ c.front-front.result.now = c.in-Ok-take.ensures.value in
     let given = rw got at c.give.ensures.given in
     given.0 ∙ rw (copied, c.front-front.ensures) (length-front (length c.args.into.now) (line_at c.args.self.now.lines c.args.stream))
 

@@ -3,11 +3,12 @@ use Rattle.std.proofs.Common.{◌≡◌, ℕ, zero, suc, ◌+◌, ◌-◌, ◌�
 use Rattle.std.proofs.lemmas.Bool.{cond-false, ltb-false, le-ltb, or_parts, or_from}
 use Rattle.std.proofs.lemmas.List.{take_at, drop_at, take-append-drop, length-append, length-take-le}
 use Rattle.byteorder.specs.Endian.{little_number}
-use Rattle.bson_wire.specs.declared.fault.BsonFault.TheVariants as fault
-use Rattle.bson_wire.specs.Spelling.{IsNumber32, IsString, IsName, IsBinary, IsRegex, IsDbPointer}
-use Rattle.bson_wire.specs.Reading.{◌>>=◌, or_fault, byte_at, bytes_at, until_zero, behind_zero, text_at, name_at, length_at, string_at, binary_at, regex_at, pointer_at}
-use Rattle.bson_wire.proofs.Steps.{bind_ok, guard_ok, ok_is, mapped-Ok}
-use Rattle.bson_wire.proofs.Texts.{text_at-utf8, text_at-Ok, until_zero-Some, or_fault-Ok, until_zero-name}
+use Rattle.bson_doc.specs.declared.bson_fault.BsonFault.TheVariants as fault
+use Rattle.bson_doc.specs.Steps.{◌>>=◌, or_fault}
+use Rattle.bson_doc.specs.wire.Spelling.{IsNumber32, IsString, IsName, IsBinary, IsRegex, IsDbPointer}
+use Rattle.bson_doc.specs.wire.Reading.{byte_at, bytes_at, until_zero, behind_zero, text_at, name_at, length_at, string_at, binary_at, regex_at, pointer_at}
+use Rattle.bson_doc.proofs.Steps.{bind_ok, guard_ok, ok_is, mapped-Ok, or_fault-Ok}
+use Rattle.bson_doc.proofs.wire.Texts.{text_at-utf8, text_at-Ok, until_zero-Some, until_zero-name}
 
 -- ---- so many bytes
 

@@ -1,5 +1,5 @@
 ghost use Rattle.std.specs.Prelude.{◌≡◌};
-ghost use Rattle.bson_wire.specs.Kinds.{byte_of, kind_of_byte};
+ghost use Rattle.bson_doc.specs.wire.Kinds.{byte_of, kind_of_byte};
 
 /// The kind of a value (bsonspec 1.1, element).
 #[derive(Clone, Copy, Debug, PartialEq, Eq)]
@@ -58,7 +58,7 @@ pub enum PlainKind {
 impl Kind {
     /// The kind that has the type byte.
     pub fn of_byte(byte: u8) -> Option<Kind>
-        ensures { result ≡ kind_of_byte byte }
+        ensures kind { result ≡ kind_of_byte byte }
     {
         match byte {
             0x01 => Some(Kind::Plain(PlainKind::Double)),
@@ -88,7 +88,7 @@ impl Kind {
 
     /// The type byte of the kind.
     pub fn byte(self) -> u8
-        ensures { result ≡ byte_of self }
+        ensures byte { result ≡ byte_of self }
     {
         match self {
             Kind::Plain(PlainKind::Double) => 0x01,

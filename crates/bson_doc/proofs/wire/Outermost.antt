@@ -4,12 +4,13 @@ use Rattle.std.proofs.lemmas.Bool.{ltb-false, le-ltb, or_parts, or_from}
 use Rattle.std.proofs.lemmas.List.{take_at, drop_at, take-append-drop, length-append, length-take-le, length-drop, append-nil}
 use Rattle.byteorder.specs.Endian.{little_number}
 use Rattle.bson_doc.specs.declared.value.Document.{Document}
-use Rattle.bson_wire.specs.declared.fault.BsonFault.{BsonFault}
-use Rattle.bson_wire.specs.declared.fault.BsonFault.TheVariants as fault
-use Rattle.bson_wire.specs.Spelling.{SpellsWithin, Spells}
-use Rattle.bson_wire.specs.Reading.{document_at, read, fault_of, flaw, Fails}
-use Rattle.bson_wire.proofs.Steps.{ok_is, err_or, Fails-Ok, Fails-Err}
-use Rattle.bson_wire.proofs.Documents.{body_takes, body_again, document_takes, document_again}
+use Rattle.bson_doc.specs.declared.bson_fault.BsonFault.{BsonFault}
+use Rattle.bson_doc.specs.declared.bson_fault.BsonFault.TheVariants as fault
+use Rattle.bson_doc.specs.Steps.{fault_of, Fails}
+use Rattle.bson_doc.specs.wire.Spelling.{SpellsWithin, Spells}
+use Rattle.bson_doc.specs.wire.Reading.{body_at, document_at, total_at, read, flaw}
+use Rattle.bson_doc.proofs.Steps.{bind_ok, ok_is, err_or, Fails-Ok, Fails-Err}
+use Rattle.bson_doc.proofs.wire.Documents.{body_takes, body_again, document_takes, document_again}
 
 -- what was taken for the outermost document
 pub record TakesWhole (bytes : List ℕ) (d : Document) (rest : List ℕ) : Type 0 where
@@ -18,12 +19,15 @@ pub record TakesWhole (bytes : List ℕ) (d : Document) (rest : List ℕ) : Type
   pub spells : Spells text d
 
 pub read_takes : (bytes : List ℕ) (x : Document × List ℕ) → read bytes ≡ Ok x → TakesWhole bytes x.0 x.1
-unfolding read SpellsWithin
+unfolding read total_at SpellsWithin
 read_takes bytes x e =
     let n : ℕ = little_number 4 (take 4 bytes) in
-    let a = err_or (ltb (length bytes) 4) _ _ x e in
-    let b = err_or (ltb n 5 || ltb 48000000 n) _ _ x a.1 in
-    let c = err_or (ltb (length bytes) n) _ _ x b.1 in
+    let read_on = bind_ok (total_at bytes) (λ k. body_at (document_at 99) 0 k (drop 4 bytes)) x e in
+    let a = err_or (ltb (length bytes) 4) _ _ read_on.0 read_on.1 in
+    let b = err_or (ltb n 5 || ltb 48000000 n) _ _ read_on.0 a.1 in
+    let c = err_or (ltb (length bytes) n) _ _ read_on.0 b.1 in
+    let is_total : n ≡ read_on.0 = ok_is n read_on.0 c.1 in
+    let inside : body_at (document_at 99) 0 n (drop 4 bytes) ≡ Ok x = ap (λ (k : ℕ). body_at (document_at 99) 0 k (drop 4 bytes)) is_total ∙ read_on.2 in
     let tests = or_parts (ltb n 5) (ltb 48000000 n) b.0 in
     let four : 4 ≤ length bytes = ltb-false _ _ a.0 in
     let low : 5 ≤ n = ltb-false _ _ tests.0 in
@@ -33,7 +37,7 @@ read_takes bytes x e =
     let behind : List ℕ = drop 4 bytes in
     let size : length number ≡ 4 = length-take-le 4 bytes four in
     let high : n ≤ length behind + 4 = omega (arith, length-drop 4 bytes) in
-    let t = body_takes (document_at 99) (SpellsWithin 99) (document_takes 99) 0 n behind x low high c.1 in
+    let t = body_takes (document_at 99) (SpellsWithin 99) (document_takes 99) 0 n behind x low high inside in
     let text : List ℕ = number ++ (t.body ++ 0 ∷ []) in
     let parts : bytes ≡ text ++ x.1 =
     sym (take-append-drop 4 bytes) ∙ ap (λ (xs : List ℕ). number ++ xs) (t.parts ∙ sym (append_assoc t.body (0 ∷ []) x.1)) ∙ sym (append_assoc number (t.body ++ 0 ∷ []) x.1) in
@@ -48,7 +52,7 @@ read_takes bytes x e =
     }
 
 pub read_again : (text more : List ℕ) (d : Document) → Spells text d → read (text ++ more) ≡ Ok (d, more)
-unfolding read SpellsWithin
+unfolding read total_at SpellsWithin
 read_again text more d spells =
     let h = spells.within in
     let n : ℕ = length h.body + 5 in
@@ -86,12 +90,17 @@ pub is_sound : (bytes : List ℕ) (x : Document × List ℕ) → read bytes ≡ 
 unfolding flaw
 is_sound bytes x e = ap fault_of e
 
-pub is_memory : (e : BsonFault) (bytes text more : List ℕ) (d : Document) → Fails e (read bytes) → bytes ≡ text ++ more → Spells text d → e ≡ fault.Memory
-is_memory e bytes text more d fails parts spells = Fails-Ok e (read bytes) (d, more) fails (ap read parts ∙ read_again text more d spells)
+pub is_memory : (e : BsonFault) (bytes text more : List ℕ) (d : Document) → Fails fault.Memory e (read bytes) → bytes ≡ text ++ more → Spells text d → e ≡ fault.Memory
+is_memory e bytes text more d fails parts spells = Fails-Ok fault.Memory e (read bytes) (d, more) fails (ap read parts ∙ read_again text more d spells)
 
-pub is_flaw : (e : BsonFault) (bytes : List ℕ) → Fails e (read bytes) → (e ≡ fault.Memory → ⊥) → flaw bytes ≡ Some e
+pub is_flaw : (e : BsonFault) (bytes : List ℕ) → Fails fault.Memory e (read bytes) → (e ≡ fault.Memory → ⊥) → flaw bytes ≡ Some e
 unfolding flaw
-is_flaw e bytes fails other = ap fault_of (Fails-Err e (read bytes) fails other)
+is_flaw e bytes fails other = ap fault_of (Fails-Err fault.Memory e (read bytes) fails other)
+
+-- what the total says is told of all
+pub is_front : (bytes : List ℕ) (e : BsonFault) → total_at bytes ≡ Err e → read bytes ≡ Err e
+unfolding read
+is_front bytes e h = rw h refl
 
 -- ---- the laws
 

@@ -11,10 +11,9 @@ use Rattle.std.proofs.lemmas.List.Quantifiers.{position-Some}
 use Rattle.std.proofs.lemmas.List.Sums.{position_or_len_is, fails_before_first}
 use Rattle.std.proofs.lemmas.Str.{is_utf8-from_IsUtf8, IsUtf8-from_is_utf8}
 use Rattle.bson_doc.specs.Names.{HasNoZero}
-use Rattle.bson_wire.specs.declared.fault.BsonFault.{BsonFault}
-use Rattle.bson_wire.specs.declared.fault.BsonFault.TheVariants as fault
-use Rattle.bson_wire.specs.Reading.{text_at, until_zero, or_fault}
-use Rattle.bson_wire.proofs.Steps.{ok_is, pass_ok}
+use Rattle.bson_doc.specs.declared.bson_fault.BsonFault.TheVariants as fault
+use Rattle.bson_doc.specs.wire.Reading.{text_at, until_zero}
+use Rattle.bson_doc.proofs.Steps.{pass_ok}
 
 pub text_at-utf8 : (at : ℕ) (bytes : List ℕ) → IsUtf8 bytes → text_at at bytes ≡ Ok bytes
 unfolding text_at
@@ -71,10 +70,6 @@ pub until_zero-Some : (bytes : List ℕ) (x : List ℕ × List ℕ) → until_ze
 until_zero-Some bytes x e =
     let found = option_map-Some (λ i. (take i bytes, drop (i + 1) bytes)) (position is_zero bytes) x e in
     subst (λ (y : List ℕ × List ℕ). (bytes ≡ y.0 ++ 0 ∷ y.1) × HasNoZero y.0) found.2 (zero_parts bytes found.0 found.1)
-
-pub or_fault-Ok : (f : BsonFault) (o : Option (List ℕ × List ℕ)) (x : List ℕ × List ℕ) → or_fault f o ≡ Ok x → o ≡ Some x
-or_fault-Ok f None x e = absurd cc
-or_fault-Ok f (Some y) x e = ap (λ (z : List ℕ × List ℕ). Some z) (ok_is y x e)
 
 -- A name with 00 behind it is found again, whatever follows.
 pub until_zero-name : (name rest : List ℕ) → HasNoZero name → until_zero (name ++ 0 ∷ rest) ≡ Some (name, rest)

@@ -6,11 +6,11 @@ use Rattle.byteorder.specs.Endian.{little_number}
 use Rattle.bson_doc.specs.declared.name.Name.{Name}
 use Rattle.bson_doc.specs.declared.value.Document.{Document}
 use Rattle.bson_doc.specs.declared.value.Value.{Value}
-use Rattle.bson_wire.specs.declared.fault.BsonFault.{BsonFault}
-use Rattle.bson_wire.specs.declared.fault.BsonFault.TheVariants as fault
-use Rattle.bson_wire.specs.Reading.{◌>>=◌, behind_zero, elements_at, body_at, document_at, read, fault_of, flaw}
-use Rattle.bson_wire.proofs.Documents.{Reader}
-use Rattle.bson_wire.proofs.Loop.{document_of}
+use Rattle.bson_doc.specs.declared.bson_fault.BsonFault.{BsonFault}
+use Rattle.bson_doc.specs.declared.bson_fault.BsonFault.TheVariants as fault
+use Rattle.bson_doc.specs.Steps.{◌>>=◌, fault_of}
+use Rattle.bson_doc.specs.wire.Reading.{behind_zero, elements_at, body_at, document_at, total_at, read, flaw}
+use Rattle.bson_doc.proofs.wire.Documents.{Reader, document_of}
 
 abbrev Element : Type 0
 Element = Name × Value
@@ -39,19 +39,19 @@ abbrev out_of_range : List ℕ → Bool
 out_of_range bytes = ltb (total_of bytes) 5 || ltb 48000000 (total_of bytes)
 
 few : (bytes : List ℕ) → length bytes < 4 → read bytes ≡ Err fault.Short
-unfolding read
+unfolding read total_at
 few bytes lt = rw (lt-ltb (length bytes) 4 lt) refl
 
 bad_total : (bytes : List ℕ) → 4 ≤ length bytes → out_of_range bytes ≡ true → read bytes ≡ Err (fault.Length 0)
-unfolding read
+unfolding read total_at
 bad_total bytes four bad = rw (le-ltb (length bytes) 4 four, bad) refl
 
 cut_short : (bytes : List ℕ) → 4 ≤ length bytes → out_of_range bytes ≡ false → length bytes < total_of bytes → read bytes ≡ Err fault.Short
-unfolding read
+unfolding read total_at
 cut_short bytes four fine lt = rw (le-ltb (length bytes) 4 four, fine, lt-ltb (length bytes) (total_of bytes) lt) refl
 
 whole : (bytes : List ℕ) → 4 ≤ length bytes → out_of_range bytes ≡ false → total_of bytes ≤ length bytes → read bytes ≡ body_at (document_at 99) 0 (total_of bytes) (drop 4 bytes)
-unfolding read
+unfolding read total_at
 whole bytes four fine le = rw (le-ltb (length bytes) 4 four, fine, le-ltb (length bytes) (total_of bytes) le) refl
 
 same_total : (bytes more : List ℕ) → 4 ≤ length bytes → total_of (bytes ++ more) ≡ total_of bytes

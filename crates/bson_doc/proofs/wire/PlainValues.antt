@@ -8,13 +8,13 @@ use Rattle.bson_doc.specs.declared.value.Value.{Value, Value-F, out-Value, roll-
 use Rattle.bson_doc.specs.declared.value.Value.TheVariants as value
 use Rattle.bson_doc.specs.declared.value.Value.TheVariants.{rolls-Double, rolls-Str, rolls-Binary, rolls-Undefined, rolls-Oid, rolls-Bool, rolls-Date, rolls-Null, rolls-Regex, rolls-DbPointer, rolls-Code, rolls-Symbol, rolls-Int32, rolls-Stamp, rolls-Int64, rolls-Decimal, rolls-Max, rolls-Min, outs-Double, outs-Str, outs-Binary, outs-Undefined, outs-Oid, outs-Bool, outs-Date, outs-Null, outs-Regex, outs-DbPointer, outs-Code, outs-Symbol, outs-Int32, outs-Stamp, outs-Int64, outs-Decimal, outs-Max, outs-Min}
 use Rattle.bson_doc.specs.declared.value.Value.TheOpen as layer
-use Rattle.bson_wire.specs.declared.kind.Kind.TheVariants as kinds
-use Rattle.bson_wire.specs.declared.kind.PlainKind.{PlainKind}
-use Rattle.bson_wire.specs.declared.kind.PlainKind.TheVariants as plain
-use Rattle.bson_wire.specs.Spelling.{IsPayload, truth_byte}
-use Rattle.bson_wire.specs.Reading.{bytes_at, string_at, binary_at, regex_at, pointer_at, bool_at, int64_of, plain_at}
-use Rattle.bson_wire.proofs.Steps.{ok_is, mapped-Ok}
-use Rattle.bson_wire.proofs.Fields.{bytes_take, bytes_again, string_takes, string_again, binary_takes, binary_again, regex_takes, regex_again, pointer_takes, pointer_again}
+use Rattle.bson_doc.specs.declared.kind.Kind.TheVariants as kinds
+use Rattle.bson_doc.specs.declared.kind.PlainKind.{PlainKind}
+use Rattle.bson_doc.specs.declared.kind.PlainKind.TheVariants as plain
+use Rattle.bson_doc.specs.wire.Spelling.{IsPayload, truth_byte}
+use Rattle.bson_doc.specs.wire.Reading.{bytes_at, string_at, binary_at, regex_at, pointer_at, bool_at, int64_of, plain_at}
+use Rattle.bson_doc.proofs.Steps.{ok_is, mapped-Ok}
+use Rattle.bson_doc.proofs.wire.Fields.{bytes_take, bytes_again, string_takes, string_again, binary_takes, binary_again, regex_takes, regex_again, pointer_takes, pointer_again}
 
 -- what was taken for a value of a plain kind
 pub record TakesPlain (Inner : List ℕ → Document → Type 0) (kind : PlainKind) (bytes : List ℕ) (v : Value) (rest : List ℕ) : Type 0 where

@@ -9,23 +9,27 @@ use Rattle.bson_doc.specs.declared.value.Value.{Value, Value-F, out-Value, roll-
 use Rattle.bson_doc.specs.declared.value.Value.TheVariants as value
 use Rattle.bson_doc.specs.declared.value.Value.TheVariants.{rolls-Doc, rolls-Array, rolls-Scope, outs-Doc, outs-Array, outs-Scope}
 use Rattle.bson_doc.specs.declared.value.Value.TheOpen as layer
-use Rattle.bson_wire.specs.declared.kind.Kind.{Kind}
-use Rattle.bson_wire.specs.declared.kind.Kind.TheVariants as kinds
-use Rattle.bson_wire.specs.declared.kind.PlainKind.TheVariants as plain
-use Rattle.bson_wire.specs.declared.fault.BsonFault.{BsonFault}
-use Rattle.bson_wire.specs.Kinds.{byte_of, kind_of_byte}
-use Rattle.bson_wire.specs.Spelling.{IsNumber32, IsString, IsArray, IsScope, IsPayload, IsElement, AreElements, SpellsWithin, values}
-use Rattle.bson_wire.specs.Reading.{◌>>=◌, Read, or_fault, no_kind, kind_at, behind_zero, name_at, string_at, no_more, inside_scope_at, scope_at, value_at, element_at, elements_at, body_at, length_at, document_at, unnamed_document}
-use Rattle.bson_wire.proofs.Steps.{bind_ok, ok_is, mapped-Ok}
-use Rattle.bson_wire.proofs.Fields.{Took, name_takes, name_again, string_takes, string_again, zero_takes, length_takes, length_again}
-use Rattle.bson_wire.proofs.PlainValues.{plain_takes, plain_again}
-use Rattle.bson_wire.proofs.Loop.{document_of}
+use Rattle.bson_doc.specs.declared.kind.Kind.{Kind}
+use Rattle.bson_doc.specs.declared.kind.Kind.TheVariants as kinds
+use Rattle.bson_doc.specs.declared.kind.PlainKind.TheVariants as plain
+use Rattle.bson_doc.specs.declared.bson_fault.BsonFault.{BsonFault}
+use Rattle.bson_doc.specs.Steps.{◌>>=◌, or_fault}
+use Rattle.bson_doc.specs.wire.Kinds.{byte_of, kind_of_byte}
+use Rattle.bson_doc.specs.wire.Spelling.{IsNumber32, IsString, IsArray, IsScope, IsPayload, IsElement, AreElements, SpellsWithin, values}
+use Rattle.bson_doc.specs.wire.Reading.{Read, no_kind, kind_at, behind_zero, name_at, string_at, no_more, inside_scope_at, scope_at, value_at, element_at, elements_at, body_at, length_at, document_at, unnamed_document}
+use Rattle.bson_doc.proofs.Steps.{bind_ok, ok_is, mapped-Ok}
+use Rattle.bson_doc.proofs.wire.Fields.{Took, name_takes, name_again, string_takes, string_again, zero_takes, length_takes, length_again}
+use Rattle.bson_doc.proofs.wire.PlainValues.{plain_takes, plain_again}
 
 abbrev pub Reader : Type 0
 Reader = ℕ → List ℕ → Read Document
 
-abbrev Element : Type 0
+abbrev pub Element : Type 0
 Element = Name × Value
+
+-- the document of some elements
+abbrev pub document_of : List (Name × Value) → Document
+document_of es = record { elements = es }
 
 -- what was taken for a document
 pub record Takes (Inner : List ℕ → Document → Type 0) (bytes : List ℕ) (d : Document) (rest : List ℕ) : Type 0 where
@@ -242,12 +246,12 @@ or_fault-Some f None kind e = absurd cc
 or_fault-Some f (Some k) kind e = ap (λ (x : Kind). Some x) (ok_is k kind e)
 
 -- what was taken for an element, its type byte in front
-record TakesElement (Inner : List ℕ → Document → Type 0) (bytes : List ℕ) (e : Element) (rest : List ℕ) : Type 0 where
-  text : List ℕ
-  parts : bytes ≡ text ++ rest
-  is : IsElement Inner text e
+pub record TakesElement (Inner : List ℕ → Document → Type 0) (bytes : List ℕ) (e : Element) (rest : List ℕ) : Type 0 where
+  pub text : List ℕ
+  pub parts : bytes ≡ text ++ rest
+  pub is : IsElement Inner text e
 
-element_takes : (R : Reader) (Inner : List ℕ → Document → Type 0) → TakesAll R Inner → (start end byte : ℕ) (bytes : List ℕ) (x : Element × List ℕ) → element_at R start end byte bytes ≡ Ok x → TakesElement Inner (byte ∷ bytes) x.0 x.1
+pub element_takes : (R : Reader) (Inner : List ℕ → Document → Type 0) → TakesAll R Inner → (start end byte : ℕ) (bytes : List ℕ) (x : Element × List ℕ) → element_at R start end byte bytes ≡ Ok x → TakesElement Inner (byte ∷ bytes) x.0 x.1
 unfolding element_at
 element_takes R Inner takes start end byte bytes x e =
     let at : ℕ = end - length bytes - 1 in

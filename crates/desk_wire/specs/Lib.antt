@@ -1,5 +1,4 @@
 pub mod Exchange
-pub mod Fronts
 pub mod Gains
 pub mod Made
 pub mod Messages

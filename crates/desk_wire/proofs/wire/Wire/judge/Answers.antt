@@ -1,6 +1,6 @@
 use Rattle.std.proofs.Common.{List, [], ℕ, take, ap, sym, subst}
 use Rattle.msg_wire.specs.Framing.{Framed}
-use Rattle.desk_wire.specs.Fronts.{HasNoneTooMany}
+use Rattle.msg_wire.specs.Fronts.{HasNoneTooMany}
 use Rattle.desk_wire.specs.State.{State}
 use Rattle.desk_wire.proofs.FrontLemmas.{all_of_it, none_too_many-nil}
 use Rattle.desk_wire.proofs.wire.Wire.judge.Goals as goal

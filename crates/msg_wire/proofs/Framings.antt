@@ -100,11 +100,6 @@ pub length-frame : (id to : ℤ) (flags : ℕ) (body : Document) → length (fra
 unfolding frame
 length-frame id to flags body = length-framing id to flags (spelled body)
 
--- What is written of a spelling is the frame where the spelling is the document's one.
-pub frame-spelled : (id to : ℤ) (flags : ℕ) (spelling : List ℕ) (body : Document) → spelling ≡ spelled body → framing id to flags spelling ≡ frame id to flags body
-unfolding frame
-frame-spelled id to flags spelling body h = ap (framing id to flags) h
-
 -- What stands in front of the document, and the document's one spelling, are the frame.
 pub frame-parts : (id to : ℤ) (flags n : ℕ) (body : Document) → n ≡ length (spelled body) → (header (n + 21) id to ++ number32 flags ++ 0 ∷ []) ++ spelled body ≡ frame id to flags body
 unfolding frame framing

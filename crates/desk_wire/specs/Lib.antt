@@ -1,4 +1,5 @@
 pub mod Exchange
+pub mod Fronts
 pub mod Gains
 pub mod Made
 pub mod Messages

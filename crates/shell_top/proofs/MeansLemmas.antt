@@ -13,7 +13,7 @@ use Rattle.msg_wire.specs.declared.fault.MsgFault.{MsgFault}
 use Rattle.msg_wire.specs.declared.message.Message.{Message}
 use Rattle.msg_wire.proofs.Asked.{flaw-nil}
 use Rattle.desk_wire.specs.Exchange.{exchange_end, Exchanges}
-use Rattle.msg_wire.specs.Fronts.{IsFront}
+use Rattle.desk_wire.specs.Fronts.{IsFront}
 use Rattle.desk_wire.specs.State.{State}
 use Rattle.desk_wire.specs.declared.answers.Pulled.{Pulled}
 use Rattle.desk_wire.specs.declared.answers.Pulled.TheVariants as pulled

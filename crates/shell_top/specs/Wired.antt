@@ -11,7 +11,7 @@ use Rattle.msg_wire.specs.Reading.{flaw}
 use Rattle.msg_wire.specs.declared.fault.MsgFault.{MsgFault}
 use Rattle.msg_wire.specs.declared.fault.MsgFault.TheVariants as fault
 use Rattle.msg_wire.specs.declared.message.Message.{Message}
-use Rattle.msg_wire.specs.Fronts.{IsFront}
+use Rattle.desk_wire.specs.Fronts.{IsFront}
 use Rattle.write_retry.specs.declared.outcome.Outcome.{Outcome}
 use Rattle.write_retry.specs.declared.outcome.Outcome.TheVariants as outcome
 use Rattle.shell_top.specs.Reply.{Says}

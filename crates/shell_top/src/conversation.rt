@@ -1,7 +1,7 @@
 ghost use Rattle.std.specs.Prelude.{◌≡◌, ◌≢◌, ◌≤◌, ◌+◌, Some, IfOk};
 ghost use Rattle.net_link.specs.Causes.{Rose};
 ghost use Rattle.net_link.specs.Seen.{seen, unseen};
-ghost use Rattle.msg_wire.specs.Fronts.{IsRefusal};
+ghost use Rattle.desk_wire.specs.Fronts.{IsRefusal};
 ghost use Rattle.shell_top.specs.Conversation.{Concludes, ready, SendsOnly};
 ghost use Rattle.shell_top.specs.Wired.{IsFailure, IsSaid, LIMIT, Means, place_of};
 ghost use Rattle.write_retry.specs.declared.outcome.Outcome.TheVariants as outcome;

@@ -5,7 +5,7 @@ use Rattle.bson_doc.specs.declared.bson_fault.BsonFault.{BsonFault}
 use Rattle.bson_doc.specs.declared.bson_fault.BsonFault.TheVariants as bson_fault
 use Rattle.bson_doc.specs.declared.value.Document.{Document}
 use Rattle.bson_doc.specs.wire.Meaning.{Means}
-use Rattle.bson_doc.proofs.wire.Meanings.{means}
+use Rattle.bson_doc.proofs.wire.Meanings.{meaning}
 use Rattle.bson_doc.proofs.Steps.{IfErr-bind, IfErr-cond, IfErr-or_fault}
 use Rattle.bson_doc.specs.wire.Reading.{flaw, until_zero}
 use Rattle.bson_doc.specs.wire.Reading as documents
@@ -29,7 +29,7 @@ IsBehind end fault.Memory = ⊥
 -- No reading of a document meets want of memory.
 not_memory : (bytes : List ℕ) (e : BsonFault) → documents.read bytes ≡ Err e → e ≢ bson_fault.Memory
 unfolding flaw
-not_memory bytes e read memory = subst (Means bytes) memory (means bytes e (ap fault_of read))
+not_memory bytes e read memory = subst (Means bytes) memory (meaning bytes e (ap fault_of read))
 
 IsBehind-result : (end place : ℕ) (read : documents.Read Document) → place ≤ end → ((e : BsonFault) → read ≡ Err e → e ≢ bson_fault.Memory) → IfErr (document_at place read) (IsBehind end)
 IsBehind-result end place (Ok x) inside other = tt

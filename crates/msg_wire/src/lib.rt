@@ -24,8 +24,6 @@ mod limits;
 mod message;
 mod reading;
 mod section;
-#[cfg(test)]
-mod section_tests;
 mod sections;
 mod sequence;
 mod sequences;

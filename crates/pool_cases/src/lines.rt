@@ -11,12 +11,14 @@ pub fn join(line: &mut WaitLine) -> Result<Told, CaseFault> {
     Ok(Told::Given(line.enter()?))
 }
 
-/// `waiting NUMBER..`, in the order of the line, with a star behind the number whose turn it is.
+/// `waiting NUMBER..`, the numbers that wait, with a star behind the one whose turn it is.
 pub fn waiting(alloc: Global, line: &WaitLine) -> Result<String, Memory> {
     let mut text = String::from_str(alloc, "waiting")?;
-    for number in line.waiting() {
-        write!(&mut text, " {number}")?;
-        if line.is_front(*number) {
+    for number in 0..line.given() {
+        if line.is_waiting(number) {
+            write!(&mut text, " {number}")?;
+        }
+        if line.is_front(number) {
             text.push_str("*")?;
         }
     }

@@ -26,8 +26,6 @@ mod limits;
 mod message;
 mod reading;
 mod section;
-#[cfg(test)]
-mod section_tests;
 mod sections;
 mod sequence;
 mod sequences;

@@ -14,7 +14,12 @@ use Rattle.pool_book.specs.declared.connections.Held.{Held}
 use Rattle.pool_book.specs.declared.connections.Available.{Available}
 use Rattle.pool_book.specs.Pool.{Pool, fresh_pool, is_closed, is_ready, ticket_of, without_ticket, held_of, without_held, without_available, last_of, is_kept}
 use Rattle.pool_book.specs.Entries.{PoolEntry, Ready, Clear, Shut, Entered, Left, Lent, Dialled, Settled, NotLent, CheckedIn, ConnShut, Closed, Cleared, Late, Lost, MayStand, after, owes, cleared_state, lend, returned, ticket_for}
-use Rattle.pool_book.specs.Judge.{Timed, Legal, Stands, moved, state_after, IsTrail, place_behind}
+use Rattle.entry_judge.specs.declared.timed.Timed.{Timed}
+use Rattle.entry_judge.specs.Judge.{Legal, state_after}
+use Rattle.entry_judge.specs.Groups.{Stands, ComesNext, Place, next_place, nothing_owed, entries_of}
+use Rattle.entry_judge.specs.GroupLaws.{IsTrail-front, IsTrail-rest}
+use Rattle.entry_judge.specs.InvariantLaws.{Keeps, Keeps-legal, KeepsOwed, KeepsOwed-legal, Reads, Reads-legal, Reads-trail}
+use Rattle.pool_book.specs.Judge.{pool_judge, IsTrail, place_behind}
 use Rattle.pool_book.specs.Sound.{Sound, times, times_held, times_available, times_of, times_waiting, times_holding, times_in}
 use Rattle.pool_book.proofs.ListLemmas.{find-passes}
 use Rattle.pool_book.proofs.TimesLemmas.{times-push, times-filter_most, times-taken, times-last}
@@ -269,12 +274,8 @@ Sound-after p moment (NotLent number (Lost conn)) s m = Sound-gone p conn s
 Sound-after p moment (CheckedIn number conn errored) s m = Sound-checked_in p moment number conn errored m.0 s m.1
 Sound-after p moment (ConnShut conn reason) s m = Sound-swept p conn s
 
--- and so along a trail
-pub Sound-legal : (p : Pool) (owed : List PoolEntry) (ts : List Timed) → Sound p → Legal Stands moved (record { pool = p; owed = owed }) ts →
-    Sound (state_after moved (record { pool = p; owed = owed }) ts).pool
-Sound-legal p owed [] s l = s
-Sound-legal p [] (t ∷ ts) s l = Sound-legal (after p t.at t.what) (owes p t.what) ts (Sound-after p t.at t.what s l.0) l.1
-Sound-legal p (d ∷ ds) (t ∷ ts) s l = Sound-legal p ds ts s l.1
+pub Sound-keeps : Keeps pool_judge Sound
+Sound-keeps = record { each = Sound-after }
 
 pub Sound-fresh : (rules : PoolRules) → Sound (fresh_pool rules)
 Sound-fresh rules = record {
@@ -287,5 +288,5 @@ Sound-fresh rules = record {
 }
 
 -- the pool behind a trail is sound
-pub Sound-trail : (rules : PoolRules) (ts : List Timed) → IsTrail rules ts → Sound (place_behind rules ts).pool
-Sound-trail rules ts l = Sound-legal (fresh_pool rules) [] ts (Sound-fresh rules) l
+pub Sound-trail : (rules : PoolRules) (ts : List (Timed PoolEntry)) → IsTrail rules ts → Sound (place_behind rules ts).state
+Sound-trail rules ts l = Keeps-legal pool_judge Sound Sound-keeps (fresh_pool rules) [] ts (Sound-fresh rules) l

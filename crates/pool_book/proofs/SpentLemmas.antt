@@ -5,7 +5,7 @@ use Rattle.std.specs.List.{list_any}
 use Rattle.std.proofs.lemmas.Bool.{eqb-true, eq-eqb, ltb-false, cases_lt, cases_Bool}
 use Rattle.std.proofs.lemmas.Bool.Decides.{eqb_tells}
 use Rattle.std.proofs.lemmas.List.Elements.{All-push, All-filter, All-weaker}
-use Rattle.wait_line.specs.Line.{is_among}
+use Rattle.wait_line.specs.Queue.{is_among}
 use Rattle.pool_book.specs.declared.rules.PoolRules.{PoolRules}
 use Rattle.pool_book.specs.declared.ticket.Ticket.{Ticket}
 use Rattle.pool_book.specs.declared.connections.Held.{Held}
@@ -13,16 +13,20 @@ use Rattle.pool_book.specs.declared.connections.Available.{Available}
 use Rattle.pool_book.specs.declared.answers.CloseReason.TheVariants.{PoolClosed}
 use Rattle.pool_book.specs.Pool.{Pool, fresh_pool, is_paused, is_ready, ticket_of, without_ticket, numbers_of, held_of, without_held, is_cleared, is_served, is_kept, shut_reason}
 use Rattle.pool_book.specs.Entries.{PoolEntry, Ready, Clear, Shut, Entered, Left, Lent, Dialled, Settled, NotLent, CheckedIn, ConnShut, Closed, Cleared, Late, Lost, MayStand, after, owes, owes_shut, ticket_for}
-use Rattle.pool_book.specs.Judge.{Judged, Timed, Legal, Stands, ComesNext, moved, state_after, settled, IsTrail, place_behind, entries_of}
+use Rattle.entry_judge.specs.declared.timed.Timed.{Timed}
+use Rattle.entry_judge.specs.Judge.{Legal, state_after}
+use Rattle.entry_judge.specs.Groups.{Stands, ComesNext, Place, next_place, nothing_owed, entries_of}
+use Rattle.entry_judge.specs.GroupLaws.{IsTrail-front, IsTrail-rest}
+use Rattle.entry_judge.specs.InvariantLaws.{Keeps, Keeps-legal, KeepsOwed, KeepsOwed-legal, Reads, Reads-legal, Reads-trail}
+use Rattle.pool_book.specs.Judge.{pool_judge, IsTrail, place_behind}
 use Rattle.pool_book.specs.Sound.{Sound, times_waiting, times_holding}
-use Rattle.pool_book.specs.Told.{told, waiting_by}
+use Rattle.pool_book.specs.Readings.{waiting_by}
 use Rattle.pool_book.specs.Laws.{serves}
 use Rattle.pool_book.proofs.ListLemmas.{find-passes}
 use Rattle.pool_book.proofs.TimesLemmas.{times-push, times-filter_most}
 use Rattle.pool_book.proofs.SoundLemmas.{Sound-trail, Sound-fresh}
-use Rattle.pool_book.proofs.ToldLemmas.{Tells-waiting_by, told-legal, times-found_by}
-use Rattle.pool_book.proofs.LentLemmas.{Pays, Pays-legal, All-find}
-use Rattle.pool_book.proofs.TrailLemmas.{Legal-front, Legal-rest}
+use Rattle.pool_book.proofs.ReadingLemmas.{ReadsAs-waiting_by, ReadsAs-legal, times-found_by}
+use Rattle.pool_book.proofs.LentLemmas.{Pays, Pays-trail, All-find}
 
 -- the ticket waits with an older generation, if at all; it entered, and dials nothing
 pub record Spent (number : ℕ) (p : Pool) : Type 0 where
@@ -137,12 +141,12 @@ neither false b e = (refl, e)
 neither true b e = absurd (cc)
 
 -- a ticket that is spent stays so, and nobody must serve it
-pub record StaysSpent (number : ℕ) (j : Judged) : Type 0 where
-  pub spent : Spent number j.pool
+pub record StaysSpent (number : ℕ) (j : Place Pool PoolEntry) : Type 0 where
+  pub spent : Spent number j.state
   pub unpaid : Unpaid number j.owed
 
-Spent-legal : (number : ℕ) (p : Pool) (owed : List PoolEntry) (ts : List Timed) → Spent number p → Unpaid number owed →
-    Legal Stands moved (record { pool = p; owed = owed }) ts → StaysSpent number (state_after moved (record { pool = p; owed = owed }) ts)
+Spent-legal : (number : ℕ) (p : Pool) (owed : List PoolEntry) (ts : List (Timed PoolEntry)) → Spent number p → Unpaid number owed →
+    Legal (Stands pool_judge) (next_place pool_judge) (record { state = p; owed = owed }) ts → StaysSpent number (state_after (next_place pool_judge) (record { state = p; owed = owed }) ts)
 Spent-legal number p owed [] s u l = record { spent = s; unpaid = u }
 Spent-legal number p [] (t ∷ ts) s u l =
     Spent-legal number (after p t.at t.what) (owes p t.what) ts (Spent-after p t.at t.what number s l.0) (Unpaid-owes p t.at t.what number s l.0) l.1
@@ -192,34 +196,32 @@ Spent-clear p moment number s a =
     }
 
 -- from a clear on
-spent_from : (p : Pool) (owed es : List PoolEntry) (moment number : ℕ) (between : List Timed) (last : Timed) → Sound p → Pays p owed →
-    told waiting_by (told waiting_by [] es) owed ≡ numbers_of p.waiting → is_among (told waiting_by [] es) number ≡ true → serves number last.what ≡ true →
-    Legal Stands moved (record { pool = p; owed = owed }) (record { at = moment; what = Clear } ∷ (between ++ last ∷ [])) → ⊥
+spent_from : (p : Pool) (owed es : List PoolEntry) (moment number : ℕ) (between : List (Timed PoolEntry)) (last : Timed PoolEntry) → Sound p → Pays p owed →
+    state_after waiting_by (state_after waiting_by [] es) owed ≡ numbers_of p.waiting → is_among (state_after waiting_by [] es) number ≡ true → serves number last.what ≡ true →
+    Legal (Stands pool_judge) (next_place pool_judge) (record { state = p; owed = owed }) (record { at = moment; what = Clear } ∷ (between ++ last ∷ [])) → ⊥
 spent_from p [] es moment number between last s h w a v l =
-    let start = settled (after p moment Clear) in
+    let start = after p moment Clear in
     let spent = Spent-clear p moment number s (rw (← w) a) in
-    let front = Legal-front Stands moved start between (last ∷ []) l.1 in
-    let stays = Spent-legal number (after p moment Clear) [] between spent refl front in
-    let rest = Legal-rest Stands moved start between (last ∷ []) l.1 in
-    let j = state_after moved start between in
-    unserved_next j.pool j.owed last.at last.what number stays.spent stays.unpaid rest.0 v
+    let front = IsTrail-front pool_judge start between (last ∷ []) l.1 in
+    let stays = Spent-legal number start [] between spent refl front in
+    let rest = IsTrail-rest pool_judge start between (last ∷ []) l.1 in
+    let j = state_after (next_place pool_judge) (nothing_owed start) between in
+    unserved_next j.state j.owed last.at last.what number stays.spent stays.unpaid rest.0 v
 spent_from p (d ∷ ds) es moment number between last s h w a v l = subst (λ e. Pays p (e ∷ ds)) (sym l.0) h
 
-never_served : (rules : PoolRules) (before : List Timed) (moment : ℕ) (between : List Timed) (last : Timed) (number : ℕ) →
+never_served : (rules : PoolRules) (before : List (Timed PoolEntry)) (moment : ℕ) (between : List (Timed PoolEntry)) (last : Timed PoolEntry) (number : ℕ) →
     IsTrail rules (before ++ record { at = moment; what = Clear } ∷ (between ++ last ∷ [])) →
-    is_among (told waiting_by [] (entries_of before)) number ≡ true → serves number last.what ≡ true → ⊥
+    is_among (state_after waiting_by [] (entries_of before)) number ≡ true → serves number last.what ≡ true → ⊥
 never_served rules before moment between last number l a v =
-    let start = settled (fresh_pool rules) in
-    let behind : List Timed = record { at = moment; what = Clear } ∷ (between ++ last ∷ []) in
-    let front = Legal-front Stands moved start before behind l in
-    let rest = Legal-rest Stands moved start before behind l in
+    let behind : List (Timed PoolEntry) = record { at = moment; what = Clear } ∷ (between ++ last ∷ []) in
+    let front = IsTrail-front pool_judge (fresh_pool rules) before behind l in
+    let rest = IsTrail-rest pool_judge (fresh_pool rules) before behind l in
     let j = place_behind rules before in
-    spent_from j.pool j.owed (entries_of before) moment number between last (Sound-trail rules before front)
-    (Pays-legal (fresh_pool rules) [] before (Sound-fresh rules) tt front)
-    (told-legal (λ p. numbers_of p.waiting) waiting_by Tells-waiting_by (fresh_pool rules) [] before [] (Sound-fresh rules) refl front) a v rest
+    spent_from j.state j.owed (entries_of before) moment number between last (Sound-trail rules before front) (Pays-trail rules before front)
+    (ReadsAs-legal (λ p. numbers_of p.waiting) waiting_by ReadsAs-waiting_by rules before front) a v rest
 
-pub serves-never : (rules : PoolRules) (before : List Timed) (moment : ℕ) (between : List Timed) (last : Timed) (number : ℕ) →
+pub serves-never : (rules : PoolRules) (before : List (Timed PoolEntry)) (moment : ℕ) (between : List (Timed PoolEntry)) (last : Timed PoolEntry) (number : ℕ) →
     IsTrail rules (before ++ record { at = moment; what = Clear } ∷ (between ++ last ∷ [])) →
-    is_among (told waiting_by [] (entries_of before)) number ≡ true → serves number last.what ≡ false
+    is_among (state_after waiting_by [] (entries_of before)) number ≡ true → serves number last.what ≡ false
 serves-never rules before moment between last number l a =
     elim (cases_Bool (serves number last.what)) [ inl served ↦ absurd (never_served rules before moment between last number l a served) | inr not_served ↦ not_served ]

@@ -1,7 +1,7 @@
 -- What a pool's book answers, and the entry that each answer stands for.
 use Rattle.std.specs.Prelude.{◌≡◌, ℕ, ◌+◌, Bool, false, Option, Some, None, unwrap_or, find, if◌then◌else◌}
 use Rattle.std.specs.Option.{option_map}
-use Rattle.wait_line.specs.Line.{is_first}
+use Rattle.wait_line.specs.Queue.{is_first}
 use Rattle.pool_book.specs.declared.ticket.Ticket.{Ticket}
 use Rattle.pool_book.specs.declared.connections.Held.{Held}
 use Rattle.pool_book.specs.declared.connections.Available.{Available}
@@ -13,7 +13,8 @@ use Rattle.pool_book.specs.declared.answers.Fate.{Fate}
 use Rattle.pool_book.specs.declared.answers.Fate.TheVariants as fate_of
 use Rattle.pool_book.specs.declared.answers.Swept.{Swept}
 use Rattle.pool_book.specs.Pool.{Pool, numbers_of, ticket_of, last_of, is_closed, is_perished, perish_reason, shut_reason, is_worthless, is_kept, is_cleared, is_late, has_place, can_take}
-use Rattle.pool_book.specs.Entries.{Lent, Dialled, NotLent, Closed, Cleared, Late, Goes}
+use Rattle.pool_book.specs.Entries.{Lent, Dialled, NotLent, Closed, Cleared, Late}
+use Rattle.pool_book.specs.Judge.{Goes}
 
 -- What the first of the line may have: the connection that was checked in last, else a new one where there is room to
 -- dial (CMAP, Checking Out a Connection).

@@ -140,8 +140,3 @@ MayStand p moment (CheckedIn number conn errored) =
 MayStand p moment (ConnShut conn reason) =
     (a : Available) × (k : ℕ) × (slice_get p.available k ≡ Some a) × (is_perished p moment a ≡ true)
     × (conn ≡ a.conn) × (reason ≡ perish_reason p a)
-
--- The pool goes on by an entry that may stand, and by what must follow it, to another pool (own: what a call does).
-pub record Goes (p : Pool) (moment : ℕ) (e : PoolEntry) (q : Pool) : Type 0 where
-  pub stands : MayStand p moment e
-  pub moves : q ≡ after p moment e

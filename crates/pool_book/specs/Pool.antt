@@ -1,7 +1,7 @@
 -- A connection pool, as its book shows it (CMAP, Connection Pool).
 use Rattle.std.specs.Prelude.{ℕ, ◌+◌, ◌-◌, Bool, true, false, not, ◌&&◌, ◌||◌, ◌==◌, nat_lt, nat_le, Option, List, [], length, filter, find, map, slice_get, if◌then◌else◌}
 use Rattle.std.specs.List.{list_any}
-use Rattle.wait_line.specs.Line.{is_first}
+use Rattle.wait_line.specs.Queue.{is_first}
 use Rattle.pool_book.specs.declared.rules.PoolRules.{PoolRules}
 use Rattle.pool_book.specs.declared.state.PoolState.{PoolState}
 use Rattle.pool_book.specs.declared.state.PoolState.TheVariants as state_of

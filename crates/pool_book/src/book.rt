@@ -1,7 +1,7 @@
 ghost use Rattle.std.specs.Prelude.{◌≡◌, ℕ, ◌+◌, ◌-◌, ◌^◌, ◌<◌, ◌≤◌, true, false, is_some};
 ghost use Rattle.pool_book.specs.Pool.{Pool, fresh_pool, ticket_of, held_of, is_closed, is_paused};
 ghost use Rattle.pool_book.specs.Entries as entry;
-ghost use Rattle.pool_book.specs.Entries.{Goes};
+ghost use Rattle.pool_book.specs.Judge.{Goes};
 
 use crate::held_list::HeldList;
 use crate::ticket_line::TicketLine;

@@ -1,5 +1,5 @@
 ghost use Rattle.std.specs.Prelude.{◌≡◌, ◌+◌, ◌-◌, ◌^◌, ◌<◌, ◌≤◌, [], ◌∷◌, ◌++◌, length, IfOk, OnOk, OnErr, IsSome, IsTrue};
-ghost use Rattle.wait_line.specs.Line.{is_first};
+ghost use Rattle.wait_line.specs.Queue.{is_first};
 ghost use Rattle.pool_book.specs.Pool.{ticket_of, without_ticket, numbers_of};
 ghost use Rattle.pool_book.specs.Parts.{Tickets};
 

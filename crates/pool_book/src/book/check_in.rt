@@ -2,7 +2,7 @@ ghost use Rattle.std.specs.Prelude.{◌≡◌, ℕ, ◌==◌, ◌||◌, not, if�
 ghost use Rattle.pool_book.specs.declared.connections.Held.{Held};
 ghost use Rattle.pool_book.specs.Pool.{Pool, held_of, is_closed, is_worthless};
 ghost use Rattle.pool_book.specs.Entries as entry;
-ghost use Rattle.pool_book.specs.Entries.{Goes};
+ghost use Rattle.pool_book.specs.Judge.{Goes};
 ghost use Rattle.pool_book.specs.Answers.{settled_answer, fate_answer};
 
 use crate::{Available, CloseReason, Fate, Held, PoolBook, PoolState, Settled};

@@ -2,7 +2,8 @@ ghost use Rattle.std.specs.Prelude.{◌≡◌, ℕ, ◌+◌, ◌-◌, ◌^◌, �
 ghost use Rattle.pool_book.specs.declared.ticket.Ticket.{Ticket};
 ghost use Rattle.pool_book.specs.Pool.{Pool, ticket_of, without_ticket, is_swept, is_perished, has_place};
 ghost use Rattle.pool_book.specs.Entries as entry;
-ghost use Rattle.pool_book.specs.Entries.{Goes, after, ticket_for};
+ghost use Rattle.pool_book.specs.Entries.{after, ticket_for};
+ghost use Rattle.pool_book.specs.Judge.{Goes};
 ghost use Rattle.pool_book.specs.Answers.{Answers, answer_due, swept_answer};
 
 use crate::{Available, CloseReason, Held, Memory, PoolBook, PoolState, Swept, Take, Ticket};

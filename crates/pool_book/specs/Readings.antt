@@ -1,17 +1,12 @@
--- What the entries so far say of a pool, each word of the standard by itself.
+-- What is read off the entries so far, each word of the standard by itself, one entry after another.
 use Rattle.std.specs.Prelude.{ℕ, ◌+◌, not, ◌==◌, List, [], ◌∷◌, ◌++◌, filter, map, if◌then◌else◌}
-use Rattle.wait_line.specs.Line.{without_number}
+use Rattle.wait_line.specs.Queue.{without_number}
 use Rattle.pool_book.specs.declared.state.PoolState.{PoolState}
 use Rattle.pool_book.specs.declared.state.PoolState.TheVariants as state_of
 use Rattle.pool_book.specs.declared.connections.Held.{Held}
 use Rattle.pool_book.specs.declared.connections.Available.{Available}
 use Rattle.pool_book.specs.Pool.{is_closed}
 use Rattle.pool_book.specs.Entries.{PoolEntry, Ready, Clear, Shut, Entered, Left, Lent, Dialled, Settled, NotLent, CheckedIn, ConnShut}
-
--- What entries say, one after another (own: a fold).
-abbrev pub told : {X : Type 0} → (X → PoolEntry → X) → X → List PoolEntry → X
-told says x [] = x
-told says x (e ∷ es) = told says (says x e) es
 
 -- The generation is the number of clears (CMAP, Clearing a Connection Pool).
 abbrev pub generation_by : ℕ → PoolEntry → ℕ

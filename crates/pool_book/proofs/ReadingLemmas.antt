@@ -55,7 +55,7 @@ pub read-owes_shut : {X : Type 0} (g : X → PoolEntry → X) (x : X) (p : Pool)
     state_after g x (owes_shut p errored o) ≡ x
 read-owes_shut g x p errored None h = refl
 read-owes_shut g x p errored (Some k) h =
-    elim (is_kept p errored k) as (λ b. state_after g x (cond b [] (ConnShut k.conn (shut_reason p errored) ∷ [])) ≡ x) [ true ↦ refl | false ↦ h x k.conn (shut_reason p errored) ]
+    elim (is_kept p errored k) as (λ b. state_after g x (cond b [] (ConnShut k.conn (shut_reason p.state errored) ∷ [])) ≡ x) [ true ↦ refl | false ↦ h x k.conn (shut_reason p.state errored) ]
 
 pub ReadsAs-generation_by : ReadsAs (λ p. p.generation) generation_by
 ReadsAs-generation_by = reads_as _ _ each where
@@ -160,10 +160,10 @@ ReadsAs-waiting_by = reads_as _ _ each where
 
 -- a connection that is checked in and not kept must be shut
 read-owes_shut_of : {X : Type 0} (g : X → PoolEntry → X) (x y : X) (p : Pool) (errored : Bool) (o : Option Held) (h : Held) → o ≡ Some h →
-    (is_kept p errored h ≡ true → x ≡ y) → (is_kept p errored h ≡ false → g x (ConnShut h.conn (shut_reason p errored)) ≡ y) →
+    (is_kept p errored h ≡ true → x ≡ y) → (is_kept p errored h ≡ false → g x (ConnShut h.conn (shut_reason p.state errored)) ≡ y) →
     state_after g x (owes_shut p errored o) ≡ y
 read-owes_shut_of g x y p errored o h e kept shut =
-    rw e (elim (is_kept p errored h) as (λ b. is_kept p errored h ≡ b → state_after g x (cond b [] (ConnShut h.conn (shut_reason p errored) ∷ [])) ≡ y) [ true ↦ kept | false ↦ shut ] refl)
+    rw e (elim (is_kept p errored h) as (λ b. is_kept p errored h ≡ b → state_after g x (cond b [] (ConnShut h.conn (shut_reason p.state errored) ∷ [])) ≡ y) [ true ↦ kept | false ↦ shut ] refl)
 
 -- the number of a connection that is found
 conn-found : (conn : ℕ) (hs : List Held) (h : Held) → held_of conn hs ≡ Some h → h.conn ≡ conn
@@ -322,7 +322,7 @@ available_by-checked_in : (p : Pool) (moment conn : ℕ) (errored : Bool) (h : H
 available_by-checked_in p moment conn errored h e none =
     let number = conn-found conn p.lent h e in
     let back : Available = record { conn = h.conn; generation = h.generation; since = moment } in
-    rw e (elim (is_kept p errored h) as (λ b. state_after available_by (free_of p.available ++ conn ∷ []) (cond b [] (ConnShut h.conn (shut_reason p errored) ∷ [])) ≡ free_of (p.available ++ cond b (back ∷ []) [])) [
+    rw e (elim (is_kept p errored h) as (λ b. state_after available_by (free_of p.available ++ conn ∷ []) (cond b [] (ConnShut h.conn (shut_reason p.state errored) ∷ [])) ≡ free_of (p.available ++ cond b (back ∷ []) [])) [
       | true ↦ rw (← number) (sym (map-push (λ (a : Available). a.conn) p.available back))
       | false ↦ rw (number, append-nil) (without-pushed conn (free_of p.available) ∙ without-absent (λ (a : Available). a.conn) conn p.available none)
     ])

@@ -66,17 +66,25 @@ pairs_of hs = map (λ h. record { ticket = h.ticket; conn = h.conn }) hs
 abbrev pub free_of : List Available → List ℕ
 free_of xs = map (λ a. a.conn) xs
 
--- A connection and the generation of its dial (CMAP, Connection, generation).
-pub record Born : Type 0 where
-  pub conn : ℕ
+-- A connection or a ticket, by its number, and the generation that the pool had as it began (CMAP, Connection,
+-- generation; WaitQueue).
+pub record Begun : Type 0 where
+  pub number : ℕ
   pub generation : ℕ
 
--- The generation so far, and the connections that were dialled, each of the generation of its dial (CMAP, Connection).
-pub record Dials : Type 0 where
+-- The generation so far, and what began, each with the generation in which it did (CMAP, Connection Pool, generation).
+pub record Beginnings : Type 0 where
   pub now : ℕ
-  pub born : List Born
+  pub begun : List Begun
 
-abbrev pub dials_by : Dials → PoolEntry → Dials
+-- A connection begins as it is dialled (CMAP, Connection, generation).
+abbrev pub dials_by : Beginnings → PoolEntry → Beginnings
 dials_by d Clear = record d { now = d.now + 1 }
-dials_by d (Dialled number conn) = record d { born = d.born ++ record { conn = conn; generation = d.now } ∷ [] }
+dials_by d (Dialled number conn) = record d { begun = d.begun ++ record { number = conn; generation = d.now } ∷ [] }
 dials_by d e = d
+
+-- A ticket begins as it enters (CMAP, WaitQueue).
+abbrev pub tickets_by : Beginnings → PoolEntry → Beginnings
+tickets_by d Clear = record d { now = d.now + 1 }
+tickets_by d (Entered number) = record d { begun = d.begun ++ record { number = number; generation = d.now } ∷ [] }
+tickets_by d e = d

@@ -2,9 +2,10 @@
 //!
 //! A trail is a list of entries of which each may stand where those ahead of it lead. The laws say what its entries mean
 //! in the standard's own words, that a pool's calls make a trail, and what no trail shows.
-ghost use Rattle.std.specs.Prelude.{◌≡◌, ℕ, ◌≤◌, true, false, Some, List, [], ◌∷◌, ◌++◌, All, slice_get, take};
+ghost use Rattle.std.specs.Prelude.{◌≡◌, ℕ, ◌≤◌, true, false, Some, List, [], ◌∷◌, ◌++◌, All, length, slice_get, slice_set, take};
 ghost use Rattle.wait_line.specs.Queue.{is_among};
 ghost use Rattle.pool_book.specs.declared.rules.PoolRules.{PoolRules};
+ghost use Rattle.pool_book.specs.declared.answers.CloseReason.{CloseReason};
 ghost use Rattle.pool_book.specs.Pool.{Pool, fresh_pool, is_closed, numbers_of};
 ghost use Rattle.pool_book.specs.Entries as entry;
 ghost use Rattle.pool_book.specs.Entries.{PoolEntry};
@@ -14,8 +15,8 @@ ghost use Rattle.entry_judge.specs.Groups.{Stands, entries_of, timed, group};
 ghost use Rattle.entry_judge.specs.Parts.{OfPart, at_part, EachLeads};
 ghost use Rattle.pool_book.specs.Judge.{pool_judge, Goes, IsTrail, place_behind, pool_behind, entries_and_owed, LeadsTo};
 ghost use Rattle.pool_book.specs.Sound.{times_of, times_in};
-ghost use Rattle.pool_book.specs.Readings.{generation_by, state_by, waiting_by, pending_by, available_by, lent_by, conns_of, pairs_of, free_of};
-ghost use Rattle.pool_book.specs.Laws.{serves, IsFree};
+ghost use Rattle.pool_book.specs.Readings.{generation_by, state_by, waiting_by, pending_by, available_by, lent_by, conns_of, pairs_of, free_of, dials_by, tickets_by};
+ghost use Rattle.pool_book.specs.Laws.{serves, misses, lends, IsFree, generation_of, none_begun, counted};
 
 use crate::PoolState;
 
@@ -83,4 +84,51 @@ pub fn no_ticket_is_served_after_a_clear()
     ensures { (rules : PoolRules) (before : List (Timed PoolEntry)) (moment : ℕ) (between : List (Timed PoolEntry)) (last : Timed PoolEntry) (number : ℕ)
         → IsTrail rules (before ++ record { at = moment; what = entry.Clear } ∷ (between ++ last ∷ []))
         → is_among (state_after waiting_by [] (entries_of before)) number ≡ true → serves number last.what ≡ false }
+{}
+
+/// A ticket that waited at a clear is refused afterwards, if it is, as cleared or closed.
+pub fn each_ticket_that_waited_at_a_clear_is_refused_as_cleared_or_closed()
+    ensures { (rules : PoolRules) (before : List (Timed PoolEntry)) (moment : ℕ) (between : List (Timed PoolEntry)) (last : Timed PoolEntry) (number : ℕ)
+        → IsTrail rules (before ++ record { at = moment; what = entry.Clear } ∷ (between ++ last ∷ []))
+        → is_among (state_after waiting_by [] (entries_of before)) number ≡ true → misses number last.what ≡ false }
+{}
+
+/// A connection that was shut is lent to nobody afterwards.
+pub fn no_shut_connection_is_lent()
+    ensures { (rules : PoolRules) (before : List (Timed PoolEntry)) (moment : ℕ) (reason : CloseReason) (between : List (Timed PoolEntry)) (last : Timed PoolEntry) (conn : ℕ)
+        → IsTrail rules (before ++ record { at = moment; what = entry.ConnShut conn reason } ∷ (between ++ last ∷ []))
+        → lends conn last.what ≡ false }
+{}
+
+/// A connection is of the generation that the pool had as it was dialled.
+pub fn each_connection_is_of_the_generation_of_its_dial()
+    ensures pending { (rules : PoolRules) (ts : List (Timed PoolEntry)) → IsTrail rules ts
+        → All (λ h. generation_of h.conn (state_after dials_by none_begun (entries_and_owed rules ts)).begun ≡ Some h.generation) (pool_behind rules ts).pending }
+    ensures lent { (rules : PoolRules) (ts : List (Timed PoolEntry)) → IsTrail rules ts
+        → All (λ h. generation_of h.conn (state_after dials_by none_begun (entries_and_owed rules ts)).begun ≡ Some h.generation) (pool_behind rules ts).lent }
+    ensures available { (rules : PoolRules) (ts : List (Timed PoolEntry)) → IsTrail rules ts
+        → All (λ a. generation_of a.conn (state_after dials_by none_begun (entries_and_owed rules ts)).begun ≡ Some a.generation) (pool_behind rules ts).available }
+{}
+
+/// A ticket that waits is of the generation that the pool had as it entered.
+pub fn each_ticket_is_of_the_generation_of_its_entry()
+    ensures { (rules : PoolRules) (ts : List (Timed PoolEntry)) → IsTrail rules ts
+        → All (λ t. generation_of t.number (state_after tickets_by none_begun (entries_and_owed rules ts)).begun ≡ Some t.generation) (pool_behind rules ts).waiting }
+{}
+
+/// Clears, tickets and connections are together no more than the entries. So none of these counts comes to the end of its
+/// type before there are as many entries.
+pub fn counts_are_no_more_than_entries()
+    ensures { (rules : PoolRules) (ts : List (Timed PoolEntry)) → IsTrail rules ts → counted (pool_behind rules ts) ≤ length ts }
+{}
+
+/// Of one trail with the pools of several hosts, which go by the same rules: there are none at first; the pool of a host
+/// that is named begins fresh; and an entry of one host's pool, with what must follow it, moves that pool alone.
+pub fn each_hosts_pool_moves_alone()
+    ensures none { (rules : PoolRules) → EachLeads pool_judge (fresh_pool rules) [] [] }
+    ensures named { (rules : PoolRules) (ts : List (OfPart PoolEntry)) (pools : List Pool) → EachLeads pool_judge (fresh_pool rules) ts pools
+        → EachLeads pool_judge (fresh_pool rules) ts (pools ++ fresh_pool rules ∷ []) }
+    ensures goes_on { (rules : PoolRules) (ts : List (OfPart PoolEntry)) (pools : List Pool) (host : ℕ) (p : Pool) (moment : ℕ) (e : PoolEntry) (q : Pool)
+        → EachLeads pool_judge (fresh_pool rules) ts pools → slice_get pools host ≡ Some p → Goes p moment e q
+        → EachLeads pool_judge (fresh_pool rules) (ts ++ at_part host (timed moment (group pool_judge p moment e))) (slice_set pools host q) }
 {}

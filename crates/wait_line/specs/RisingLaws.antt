@@ -1,5 +1,5 @@
 -- Laws of items whose numbers rise, for the proofs of other crates too.
-use Rattle.std.proofs.Common.{◌≡◌, ℕ, zero, suc, ◌+◌, ◌<◌, ◌≤◌, Bool, true, false, not, ◌||◌, cond, eqb, List, [], ◌∷◌, ◌++◌, length, get_or, take, drop, filter, find, remove, map, Some, refl, sym, ap, ◌∙◌, arith, inl, inr}
+use Rattle.std.proofs.Common.{◌≡◌, ℕ, zero, suc, ◌+◌, ◌<◌, ◌≤◌, Bool, true, false, not, ◌||◌, cond, eqb, List, [], ◌∷◌, ◌++◌, length, get_or, take, drop, filter, find, remove, map, Some, refl, sym, ap, ◌∙◌, subst, arith, inl, inr}
 use Rattle.std.specs.Prelude.{slice_get}
 use Rattle.std.specs.List.{list_any}
 use Rattle.std.proofs.lemmas.Bool.{eq-eqb}
@@ -60,6 +60,10 @@ Rises-remove f least (y ∷ ys) b zero x k r e n =
 Rises-remove f least (y ∷ ys) b (suc i) x k r e n =
     let more = Rises-least f (f y + 1) ys b i x r.2 e in
     rw (eqb-less (f y) k (omega (arith, n))) (ap (λ zs. y ∷ zs) (Rises-remove f (f y + 1) ys b i x k r.2 e n))
+
+pub Rises-removed : {X : Type 0} (f : X → ℕ) (least : ℕ) (xs : List X) (b i : ℕ) (x : X) → Rises f least xs b → slice_get xs i ≡ Some x → Rises f least (remove xs i) b
+Rises-removed f least xs b i x r e =
+    subst (λ ys. Rises f least ys b) (Rises-remove f least xs b i x (f x) r e refl) (Rises-filter f least (λ y. not (eqb (f y) (f x))) xs b r)
 
 -- numbers by their places
 least_place : (least : ℕ) (ns : List ℕ) (b j : ℕ) → Rises (λ n. n) least ns b → j < length ns → least ≤ get_or ns j 0

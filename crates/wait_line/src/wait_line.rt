@@ -96,9 +96,10 @@ impl WaitLine {
         ensures left { self.new ≡ left number self.old }
         ensures absent { is_among self.old.waiting number ≡ false → self.new ≡ self.old }
     {
-        if let Some(place) = self.place(number) {
-            self.waiting.remove(place);
-        }
+        let Some(place) = self.place(number) else {
+            return;
+        };
+        self.waiting.remove(place);
     }
 
     /// The place of the number in the line, counted from the front, found by halves.
@@ -106,19 +107,6 @@ impl WaitLine {
         ensures some { IfSome result (λ place. slice_get self.now.waiting place ≡ Some number) }
         ensures none { IfNone result (is_among self.now.waiting number ≡ false) }
     {
-        let (mut low, mut high) = (0, self.waiting.len());
-        while low < high {
-            let middle = low + (high - low) / 2;
-            if self.waiting[middle] < number {
-                low = middle + 1;
-            } else {
-                high = middle;
-            }
-        }
-        if low < self.waiting.len() && self.waiting[low] == number {
-            Some(low)
-        } else {
-            None
-        }
+        self.waiting.binary_search(&number).ok()
     }
 }

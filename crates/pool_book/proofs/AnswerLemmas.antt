@@ -3,14 +3,14 @@ use Rattle.std.proofs.Common.{◌≡◌, ℕ, ◌+◌, ◌-◌, Bool, true, fals
 use Rattle.std.specs.Prelude.{unwrap_or}
 use Rattle.std.specs.Option.{option_map}
 use Rattle.std.proofs.lemmas.Option.{slice_get-get_or}
-use Rattle.wait_line.specs.Line.{is_first}
+use Rattle.wait_line.specs.Queue.{is_first}
 use Rattle.pool_book.specs.declared.state.PoolState.{PoolState}
 use Rattle.pool_book.specs.declared.state.PoolState.TheVariants as state_of
 use Rattle.pool_book.specs.declared.ticket.Ticket.{Ticket}
 use Rattle.pool_book.specs.declared.connections.Available.{Available}
 use Rattle.pool_book.specs.declared.answers.Take.{Take}
 use Rattle.pool_book.specs.declared.answers.Take.TheVariants as take_of
-use Rattle.pool_book.specs.Pool.{Pool, numbers_of, ticket_of, last_of, is_closed, is_paused, is_ready, is_swept, is_cleared, is_late, is_served, has_place, can_take}
+use Rattle.pool_book.specs.Pool.{Pool, numbers_of, ticket_of, last_of, is_closed, is_paused, is_ready, is_swept, is_cleared, is_late, is_served, has_room, can_take}
 use Rattle.pool_book.specs.Entries.{Lent, Dialled, NotLent, Closed, Cleared, Late, after}
 use Rattle.pool_book.specs.Answers.{Answers, answer_due, taken_from}
 
@@ -42,10 +42,10 @@ answer_due-by_tests G false false false false taken g a b c d e = e refl refl re
 -- a fact of what the first of the line may have
 taken_from-by_cases : (G : Take → Type 0) (p : Pool) (o : Option Available) (x : Take) → taken_from p o ≡ Some x →
     ((a : Available) → o ≡ Some a → G (take_of.Lent a.conn)) →
-    (o ≡ None → has_place p ≡ true → G (take_of.Dial (p.dialled + 1))) → G x
+    (o ≡ None → has_room p ≡ true → G (take_of.Dial (p.dialled + 1))) → G x
 taken_from-by_cases G p (Some a) x e l d = let same : take_of.Lent a.conn ≡ x = cc in subst G same (l a refl)
 taken_from-by_cases G p None x e l d =
-    elim (has_place p) as (λ b. has_place p ≡ b → cond b (Some (take_of.Dial (p.dialled + 1))) None ≡ Some x → G x) [
+    elim (has_room p) as (λ b. has_room p ≡ b → cond b (Some (take_of.Dial (p.dialled + 1))) None ≡ Some x → G x) [
       | true ↦ λ place e'. let same : take_of.Dial (p.dialled + 1) ≡ x = cc in subst G same (d refl place)
       | false ↦ λ _ e'. absurd (cc)
     ] refl e
@@ -63,7 +63,7 @@ is_served-tests state_of.Ready older first swept c k f w = rw (k, f, w)
 is_served-tests state_of.Closed older first swept c k f w = absurd (cc)
 
 -- the first of the line, whose ticket is current, is served in a swept pool
-is_served-first : (p : Pool) (moment : ℕ) (t : Ticket) → is_closed p.state ≡ false → is_cleared p t ≡ false →
+is_served-first : (p : Pool) (moment : ℕ) (t : Ticket) → is_closed p.state ≡ false → is_cleared p.state p.generation t.generation ≡ false →
     is_first (numbers_of p.waiting) t.number ≡ true → is_swept p moment ≡ true → is_served p moment t ≡ true
 is_served-first p moment t c k f s = is_served-tests p.state (ltb t.generation p.generation) _ _ c k f s
 
@@ -80,11 +80,11 @@ and-no_room : (a x y : Bool) → x ≡ false → y ≡ false → (a && (x || y))
 and-no_room a x y e f = rw (e, f) (and-false a)
 
 -- nothing may be had where nothing is available and there is no room to dial
-taken_from-None : (p : Pool) (o : Option Available) → taken_from p o ≡ None → (o ≡ None) × (has_place p ≡ false)
+taken_from-None : (p : Pool) (o : Option Available) → taken_from p o ≡ None → (o ≡ None) × (has_room p ≡ false)
 taken_from-None p (Some a) e = absurd (cc)
 taken_from-None p None e = (
   refl,
-  elim (has_place p) as (λ b. cond b (Some (take_of.Dial (p.dialled + 1))) None ≡ None → b ≡ false) [
+  elim (has_room p) as (λ b. cond b (Some (take_of.Dial (p.dialled + 1))) None ≡ None → b ≡ false) [
     | true ↦ λ found. absurd (cc)
     | false ↦ λ _. refl
   ] e,
@@ -99,14 +99,14 @@ can_take-none p moment t e =
           let no = taken_from-None p _ none in
           let empty : ltb 0 (length p.available) ≡ false = rw (last_of-None p.available no.0) refl in
           and-no_room (is_served p moment t) _ _ empty no.1
-      | false ↦ λ first _. rw first (and-not_first (is_ready p.state) (not (is_cleared p t)) (is_swept p moment) _)
+      | false ↦ λ first _. rw first (and-not_first (is_ready p.state) (not (is_cleared p.state p.generation t.generation)) (is_swept p moment) _)
     ] refl e
 
 -- what is due stands
 Answers-due : (p : Pool) (moment number : ℕ) (t : Ticket) → ticket_of number p.waiting ≡ Some t → is_swept p moment ≡ true →
     Answers p moment number (answer_due p moment t) (behind p moment number (answer_due p moment t))
 Answers-due p moment number t h s =
-    answer_due-by_tests (λ x. Answers p moment number x (behind p moment number x)) (is_closed p.state) (is_cleared p t) (is_first (numbers_of p.waiting) t.number) (is_late p moment t) (taken_from p (last_of p.available)) p.generation
+    answer_due-by_tests (λ x. Answers p moment number x (behind p moment number x)) (is_closed p.state) (is_cleared p.state p.generation t.generation) (is_first (numbers_of p.waiting) t.number) (is_late p.rules t.entered moment) (taken_from p (last_of p.available)) p.generation
     (λ c. record { stands = (t, h, c); moves = refl })
     (λ c k. record { stands = (t, h, (c, k, refl)); moves = refl })
     (λ c k f x e. let served = is_served-first p moment t c k f s in

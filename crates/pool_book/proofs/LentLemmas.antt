@@ -16,15 +16,19 @@ use Rattle.pool_book.specs.declared.connections.Available.{Available}
 use Rattle.pool_book.specs.declared.answers.CloseReason.TheVariants.{PoolClosed}
 use Rattle.pool_book.specs.Pool.{Pool, fresh_pool, is_closed, held_of, without_held, last_of, is_kept, is_perished, is_swept, is_worthless, shut_reason}
 use Rattle.pool_book.specs.Entries.{PoolEntry, Ready, Clear, Shut, Entered, Left, Lent, Dialled, Settled, NotLent, CheckedIn, ConnShut, Closed, Cleared, Late, Lost, MayStand, after, owes, owes_shut, lend, returned}
-use Rattle.pool_book.specs.Judge.{Timed, Legal, Stands, ComesNext, moved, state_after, settled, IsTrail, place_behind, entries_of}
+use Rattle.entry_judge.specs.declared.timed.Timed.{Timed}
+use Rattle.entry_judge.specs.Judge.{Legal, state_after}
+use Rattle.entry_judge.specs.Groups.{Stands, ComesNext, Place, next_place, nothing_owed, entries_of}
+use Rattle.entry_judge.specs.GroupLaws.{IsTrail-front, IsTrail-rest}
+use Rattle.entry_judge.specs.InvariantLaws.{Keeps, Keeps-legal, KeepsOwed, KeepsOwed-legal, Reads, Reads-legal, Reads-trail}
+use Rattle.pool_book.specs.Judge.{pool_judge, IsTrail, place_behind, entries_and_owed}
 use Rattle.pool_book.specs.Sound.{Sound, times, times_held}
-use Rattle.pool_book.specs.Told.{told, generation_by, lent_by, Pair, pairs_of, dials_by, Born, Dials}
-use Rattle.pool_book.specs.Laws.{born_of, no_dials, IsFree}
+use Rattle.pool_book.specs.Readings.{generation_by, lent_by, Pair, pairs_of, dials_by, Begun, Beginnings}
+use Rattle.pool_book.specs.Laws.{generation_of, none_begun, IsFree}
 use Rattle.pool_book.proofs.ListLemmas.{find-passes}
 use Rattle.pool_book.proofs.TimesLemmas.{times-push, times-found}
-use Rattle.pool_book.proofs.SoundLemmas.{Sound-after, Sound-trail, Sound-fresh, last_of-Some}
-use Rattle.pool_book.proofs.ToldLemmas.{Tells-generation_by, Tells-lent_by, told-legal, told-shuts, told-owes_shut, times-at, last-conn}
-use Rattle.pool_book.proofs.TrailLemmas.{Legal-front, Legal-rest}
+use Rattle.pool_book.proofs.SoundLemmas.{Sound-keeps, Sound-trail, Sound-fresh, last_of-Some}
+use Rattle.pool_book.proofs.ReadingLemmas.{ReadsAs-legal, ReadsAs-generation_by, ReadsAs-lent_by, read-shuts, read-owes_shut, times-at, last-conn}
 
 -- where none is counted none is found
 pub find-times_none : {X : Type 0} (p : X → Bool) (xs : List X) → times p xs ≡ 0 → find p xs ≡ None
@@ -43,7 +47,7 @@ list_any-times_none p (x ∷ xs) h =
       | false ↦ λ k. list_any-times_none p xs (omega arith)
     ] h
 
-find-append_none : {X : Type 0} (p : X → Bool) (xs : List X) (y : X) → find p xs ≡ None → find p (xs ++ y ∷ []) ≡ cond (p y) (Some y) None
+pub find-append_none : {X : Type 0} (p : X → Bool) (xs : List X) (y : X) → find p xs ≡ None → find p (xs ++ y ∷ []) ≡ cond (p y) (Some y) None
 find-append_none p [] y e = refl
 find-append_none p (x ∷ xs) y e =
     elim (p x) as (λ b. cond b (Some x) (find p xs) ≡ None → cond b (Some x) (find p (xs ++ y ∷ [])) ≡ cond (p y) (Some y) None) [
@@ -121,14 +125,14 @@ AllPaid-shuts (a ∷ xs) = AllPaid-shuts xs
 AllPaid-owes_shut : (p : Pool) (errored : Bool) (o : Option Held) → AllPaid (owes_shut p errored o)
 AllPaid-owes_shut p errored None = tt
 AllPaid-owes_shut p errored (Some h) =
-    elim (is_kept p errored h) as (λ b. AllPaid (cond b [] (ConnShut h.conn (shut_reason p errored) ∷ []))) [ true ↦ tt | false ↦ tt ]
+    elim (is_kept p errored h) as (λ b. AllPaid (cond b [] (ConnShut h.conn (shut_reason p.state errored) ∷ []))) [ true ↦ tt | false ↦ tt ]
 
 not-stale : (c e : Bool) → false ≡ (c || not e) → e ≡ true
 not-stale true e h = absurd (cc)
 not-stale false true h = refl
 not-stale false false h = absurd (cc)
 
-HasLent-settled : (p : Pool) (moment number conn : ℕ) (h : Held) → Sound p → held_of conn p.pending ≡ Some h → false ≡ is_worthless p h →
+HasLent-settled : (p : Pool) (moment number conn : ℕ) (h : Held) → Sound p → held_of conn p.pending ≡ Some h → false ≡ is_worthless p.state p.generation h.generation →
     HasLent (after p moment (Settled number conn false)) number conn
 HasLent-settled p moment number conn h s e w =
     let pending = times-found (λ (x : Held). eqb x.conn conn) p.pending h e in
@@ -159,66 +163,65 @@ Pays-owes p moment (CheckedIn number conn errored) s m =
     Pays-paid (after p moment (CheckedIn number conn errored)) (owes_shut p errored (held_of conn p.lent)) (AllPaid-owes_shut p errored (held_of conn p.lent))
 Pays-owes p moment (ConnShut conn reason) s m = tt
 
-pub Pays-legal : (p : Pool) (owed : List PoolEntry) (ts : List Timed) → Sound p → Pays p owed → Legal Stands moved (record { pool = p; owed = owed }) ts →
-    let j = state_after moved (record { pool = p; owed = owed }) ts in Pays j.pool j.owed
-Pays-legal p owed [] s h l = h
-Pays-legal p [] (t ∷ ts) s h l =
-    Pays-legal (after p t.at t.what) (owes p t.what) ts (Sound-after p t.at t.what s l.0) (Pays-owes p t.at t.what s l.0) l.1
-Pays-legal p (d ∷ ds) (t ∷ ts) s h l = Pays-legal p ds ts s (Pays-rest p d ds h) l.1
+pub Pays-keeps : KeepsOwed pool_judge Sound Pays
+Pays-keeps = record { keeps = Sound-keeps; behind = Pays-owes; rest = Pays-rest }
+
+pub Pays-trail : (rules : PoolRules) (ts : List (Timed PoolEntry)) → IsTrail rules ts → Pays (place_behind rules ts).state (place_behind rules ts).owed
+Pays-trail rules ts l = KeepsOwed-legal pool_judge Sound Pays Pays-keeps (fresh_pool rules) [] ts (Sound-fresh rules) tt l
 
 -- each connection is of the generation in which it was dialled
-pub record BornIn (p : Pool) (d : Dials) : Type 0 where
+pub record BornIn (p : Pool) (d : Beginnings) : Type 0 where
   pub generation : d.now ≡ p.generation
-  pub pending : All (λ h. born_of h.conn d.born ≡ Some h.generation) p.pending
-  pub lent : All (λ h. born_of h.conn d.born ≡ Some h.generation) p.lent
-  pub available : All (λ a. born_of a.conn d.born ≡ Some a.generation) p.available
-  pub later : (conn : ℕ) → p.dialled < conn → find (λ b. b.conn == conn) d.born ≡ None
+  pub pending : All (λ h. generation_of h.conn d.begun ≡ Some h.generation) p.pending
+  pub lent : All (λ h. generation_of h.conn d.begun ≡ Some h.generation) p.lent
+  pub available : All (λ a. generation_of a.conn d.begun ≡ Some a.generation) p.available
+  pub later : (conn : ℕ) → p.dialled < conn → find (λ b. b.number == conn) d.begun ≡ None
 
-option-born : (o : Option Born) (g : ℕ) → option_map (λ (b : Born). b.generation) o ≡ Some g → (b : Born) × (o ≡ Some b) × (b.generation ≡ g)
-option-born None g e = absurd (cc)
-option-born (Some b) g e = (b, refl, cc)
+option-begun : (o : Option Begun) (g : ℕ) → option_map (λ (b : Begun). b.generation) o ≡ Some g → (b : Begun) × (o ≡ Some b) × (b.generation ≡ g)
+option-begun None g e = absurd (cc)
+option-begun (Some b) g e = (b, refl, cc)
 
 -- a further dial leaves the generations of those before
-born_of-push : (conn g : ℕ) (bs : List Born) (b : Born) → born_of conn bs ≡ Some g → born_of conn (bs ++ b ∷ []) ≡ Some g
-born_of-push conn g bs b e =
-    let old = option-born (find (λ (x : Born). eqb x.conn conn) bs) g e in
-    rw (find-append_some (λ (x : Born). eqb x.conn conn) bs old.0 b old.1) (ap (λ n. Some n) old.2)
+pub generation_of-push : (conn g : ℕ) (bs : List Begun) (b : Begun) → generation_of conn bs ≡ Some g → generation_of conn (bs ++ b ∷ []) ≡ Some g
+generation_of-push conn g bs b e =
+    let old = option-begun (find (λ (x : Begun). eqb x.number conn) bs) g e in
+    rw (find-append_some (λ (x : Begun). eqb x.number conn) bs old.0 b old.1) (ap (λ n. Some n) old.2)
 
-BornIn-lent : (p : Pool) (moment number conn : ℕ) (d : Dials) (a : Available) → BornIn p d → last_of p.available ≡ Some a → BornIn (after p moment (Lent number conn)) d
+BornIn-lent : (p : Pool) (moment number conn : ℕ) (d : Beginnings) (a : Available) → BornIn p d → last_of p.available ≡ Some a → BornIn (after p moment (Lent number conn)) d
 BornIn-lent p moment number conn d a b e =
-    let P : Held → Type 0 = λ h. born_of h.conn d.born ≡ Some h.generation in
-    let own = All-at (λ (x : Available). born_of x.conn d.born ≡ Some x.generation) p.available (length p.available - 1) a b.available e in
+    let P : Held → Type 0 = λ h. generation_of h.conn d.begun ≡ Some h.generation in
+    let own = All-at (λ (x : Available). generation_of x.conn d.begun ≡ Some x.generation) p.available (length p.available - 1) a b.available e in
     let pushed : All P (p.lent ++ lend number (last_of p.available)) = rw e (All-push P p.lent (record { conn = a.conn; ticket = number; generation = a.generation }) b.lent own) in
     record {
       generation = b.generation;
       pending = b.pending;
       lent = pushed;
-      available = All-take (λ (x : Available). born_of x.conn d.born ≡ Some x.generation) _ p.available b.available;
+      available = All-take (λ (x : Available). generation_of x.conn d.begun ≡ Some x.generation) _ p.available b.available;
       later = b.later;
     }
 
-BornIn-dialled : (p : Pool) (moment number : ℕ) (d : Dials) → BornIn p d →
+BornIn-dialled : (p : Pool) (moment number : ℕ) (d : Beginnings) → BornIn p d →
     BornIn (after p moment (Dialled number (p.dialled + 1))) (dials_by d (Dialled number (p.dialled + 1)))
 BornIn-dialled p moment number d b =
-    let new : Born = record { conn = p.dialled + 1; generation = d.now } in
+    let new : Begun = record { number = p.dialled + 1; generation = d.now } in
     let held : Held = record { conn = p.dialled + 1; ticket = number; generation = p.generation } in
-    let P : Held → Type 0 = λ h. born_of h.conn (d.born ++ new ∷ []) ≡ Some h.generation in
+    let P : Held → Type 0 = λ h. generation_of h.conn (d.begun ++ new ∷ []) ≡ Some h.generation in
     let none = b.later (p.dialled + 1) (omega arith) in
-    let own : born_of (p.dialled + 1) (d.born ++ new ∷ []) ≡ Some p.generation =
-    rw (find-append_none (λ (x : Born). eqb x.conn (p.dialled + 1)) d.born new none, eq-eqb (p.dialled + 1) (p.dialled + 1) refl) (ap (λ n. Some n) b.generation) in
+    let own : generation_of (p.dialled + 1) (d.begun ++ new ∷ []) ≡ Some p.generation =
+    rw (find-append_none (λ (x : Begun). eqb x.number (p.dialled + 1)) d.begun new none, eq-eqb (p.dialled + 1) (p.dialled + 1) refl) (ap (λ n. Some n) b.generation) in
     record {
       generation = b.generation;
-      pending = All-push P p.pending held (All-weaker (λ (h : Held). born_of h.conn d.born ≡ Some h.generation) P (λ h e. born_of-push h.conn h.generation d.born new e) p.pending b.pending) own;
-      lent = All-weaker (λ (h : Held). born_of h.conn d.born ≡ Some h.generation) P (λ h e. born_of-push h.conn h.generation d.born new e) p.lent b.lent;
-      available = All-weaker (λ (a : Available). born_of a.conn d.born ≡ Some a.generation) (λ (a : Available). born_of a.conn (d.born ++ new ∷ []) ≡ Some a.generation) (λ a e. born_of-push a.conn a.generation d.born new e) p.available b.available;
-      later = λ conn l. find-append_none (λ (x : Born). eqb x.conn conn) d.born new (b.later conn (omega arith)) ∙
+      pending = All-push P p.pending held (All-weaker (λ (h : Held). generation_of h.conn d.begun ≡ Some h.generation) P (λ h e. generation_of-push h.conn h.generation d.begun new e) p.pending b.pending) own;
+      lent = All-weaker (λ (h : Held). generation_of h.conn d.begun ≡ Some h.generation) P (λ h e. generation_of-push h.conn h.generation d.begun new e) p.lent b.lent;
+      available = All-weaker (λ (a : Available). generation_of a.conn d.begun ≡ Some a.generation) (λ (a : Available). generation_of a.conn (d.begun ++ new ∷ []) ≡ Some a.generation) (λ a e. generation_of-push a.conn a.generation d.begun new e) p.available b.available;
+      later = λ conn l. find-append_none (λ (x : Begun). eqb x.number conn) d.begun new (b.later conn (omega arith)) ∙
           elim (eqb_tells (p.dialled + 1) conn) [ inl w ↦ absurd (omega arith) | inr w ↦ rw w.0 refl ];
     }
 
-BornIn-settled : (p : Pool) (moment number conn : ℕ) (d : Dials) (h : Held) → BornIn p d → held_of conn p.pending ≡ Some h →
+BornIn-settled : (p : Pool) (moment number conn : ℕ) (d : Beginnings) (h : Held) → BornIn p d → held_of conn p.pending ≡ Some h →
     BornIn (after p moment (Settled number conn false)) d
 BornIn-settled p moment number conn d h b e =
-    let P : Held → Type 0 = λ h. born_of h.conn d.born ≡ Some h.generation in
+    let P : Held → Type 0 = λ h. generation_of h.conn d.begun ≡ Some h.generation in
     let own : P h = All-find P (λ (x : Held). eqb x.conn conn) p.pending h b.pending e in
     let pushed : All P (p.lent ++ option_to_list (held_of conn p.pending)) = rw e (All-push P p.lent h b.lent own) in
     record {
@@ -229,20 +232,20 @@ BornIn-settled p moment number conn d h b e =
       later = b.later;
     }
 
-BornIn-gone : (p : Pool) (conn : ℕ) (d : Dials) → BornIn p d → BornIn (record p { pending = without_held conn p.pending }) d
+BornIn-gone : (p : Pool) (conn : ℕ) (d : Beginnings) → BornIn p d → BornIn (record p { pending = without_held conn p.pending }) d
 BornIn-gone p conn d b = record {
   generation = b.generation;
-  pending = All-filter _ (λ (h : Held). born_of h.conn d.born ≡ Some h.generation) p.pending b.pending;
+  pending = All-filter _ (λ (h : Held). generation_of h.conn d.begun ≡ Some h.generation) p.pending b.pending;
   lent = b.lent;
   available = b.available;
   later = b.later;
 }
 
-BornIn-checked_in : (p : Pool) (moment number conn : ℕ) (errored : Bool) (d : Dials) (h : Held) → BornIn p d → held_of conn p.lent ≡ Some h →
+BornIn-checked_in : (p : Pool) (moment number conn : ℕ) (errored : Bool) (d : Beginnings) (h : Held) → BornIn p d → held_of conn p.lent ≡ Some h →
     BornIn (after p moment (CheckedIn number conn errored)) d
 BornIn-checked_in p moment number conn errored d h b e =
-    let P : Held → Type 0 = λ h. born_of h.conn d.born ≡ Some h.generation in
-    let Q : Available → Type 0 = λ a. born_of a.conn d.born ≡ Some a.generation in
+    let P : Held → Type 0 = λ h. generation_of h.conn d.begun ≡ Some h.generation in
+    let Q : Available → Type 0 = λ a. generation_of a.conn d.begun ≡ Some a.generation in
     let back : Available = record { conn = h.conn; generation = h.generation; since = moment } in
     let own : P h = All-find P (λ (x : Held). eqb x.conn conn) p.lent h b.lent e in
     let pushed : All Q (p.available ++ returned p moment errored (held_of conn p.lent)) =
@@ -255,7 +258,7 @@ BornIn-checked_in p moment number conn errored d h b e =
       later = b.later;
     }
 
-BornIn-same : (p q : Pool) (d : Dials) → BornIn p d → q.generation ≡ p.generation → q.pending ≡ p.pending → q.lent ≡ p.lent → q.available ≡ p.available → q.dialled ≡ p.dialled → BornIn q d
+BornIn-same : (p q : Pool) (d : Beginnings) → BornIn p d → q.generation ≡ p.generation → q.pending ≡ p.pending → q.lent ≡ p.lent → q.available ≡ p.available → q.dialled ≡ p.dialled → BornIn q d
 BornIn-same p q d b g i j k n = record {
   generation = b.generation ∙ sym g;
   pending = rw i b.pending;
@@ -264,10 +267,10 @@ BornIn-same p q d b g i j k n = record {
   later = λ conn l. b.later conn (rw (← n) l);
 }
 
-BornIn-after : (p : Pool) (moment : ℕ) (e : PoolEntry) (d : Dials) → BornIn p d → MayStand p moment e → BornIn (after p moment e) (dials_by d e)
+BornIn-after : (p : Pool) (moment : ℕ) (e : PoolEntry) (d : Beginnings) → BornIn p d → MayStand p moment e → BornIn (after p moment e) (dials_by d e)
 BornIn-after p moment Ready d b m = BornIn-same p _ d b refl refl refl refl refl
 BornIn-after p moment Clear d b m = record { generation = ap (λ n. n + 1) b.generation; pending = b.pending; lent = b.lent; available = b.available; later = b.later }
-BornIn-after p moment Shut d b m = record { generation = b.generation; pending = b.pending; lent = b.lent; available = All-nil (λ (a : Available). born_of a.conn d.born ≡ Some a.generation); later = b.later }
+BornIn-after p moment Shut d b m = record { generation = b.generation; pending = b.pending; lent = b.lent; available = All-nil (λ (a : Available). generation_of a.conn d.begun ≡ Some a.generation); later = b.later }
 BornIn-after p moment (Entered number) d b m = BornIn-same p _ d b refl refl refl refl refl
 BornIn-after p moment (Left number) d b m = BornIn-same p _ d b refl refl refl refl refl
 BornIn-after p moment (Lent number conn) d b m =
@@ -280,13 +283,13 @@ BornIn-after p moment (NotLent number (Cleared g)) d b m = BornIn-same p _ d b r
 BornIn-after p moment (NotLent number Late) d b m = BornIn-same p _ d b refl refl refl refl refl
 BornIn-after p moment (NotLent number (Lost conn)) d b m = BornIn-gone p conn d b
 BornIn-after p moment (CheckedIn number conn errored) d b m = BornIn-checked_in p moment number conn errored d m.0 b m.1
-BornIn-after p moment (ConnShut conn reason) d b m = record { generation = b.generation; pending = b.pending; lent = b.lent; available = All-filter _ (λ (a : Available). born_of a.conn d.born ≡ Some a.generation) p.available b.available; later = b.later }
+BornIn-after p moment (ConnShut conn reason) d b m = record { generation = b.generation; pending = b.pending; lent = b.lent; available = All-filter _ (λ (a : Available). generation_of a.conn d.begun ≡ Some a.generation) p.available b.available; later = b.later }
 
 -- what must follow dials nothing and clears nothing
-dials_by-owes : (p : Pool) (e : PoolEntry) (d : Dials) → told dials_by d (owes p e) ≡ d
+dials_by-owes : (p : Pool) (e : PoolEntry) (d : Beginnings) → state_after dials_by d (owes p e) ≡ d
 dials_by-owes p Ready d = refl
 dials_by-owes p Clear d = refl
-dials_by-owes p Shut d = told-shuts dials_by d p.available (λ y c r. refl)
+dials_by-owes p Shut d = read-shuts dials_by d p.available (λ y c r. refl)
 dials_by-owes p (Entered number) d = refl
 dials_by-owes p (Left number) d = refl
 dials_by-owes p (Lent number conn) d = refl
@@ -297,26 +300,33 @@ dials_by-owes p (NotLent number Closed) d = refl
 dials_by-owes p (NotLent number (Cleared g)) d = refl
 dials_by-owes p (NotLent number Late) d = refl
 dials_by-owes p (NotLent number (Lost conn)) d = refl
-dials_by-owes p (CheckedIn number conn errored) d = told-owes_shut dials_by d p errored (held_of conn p.lent) (λ y c r. refl)
+dials_by-owes p (CheckedIn number conn errored) d = read-owes_shut dials_by d p errored (held_of conn p.lent) (λ y c r. refl)
 dials_by-owes p (ConnShut conn reason) d = refl
 
-pub BornIn-legal : (p : Pool) (owed : List PoolEntry) (ts : List Timed) (d : Dials) → BornIn p (told dials_by d owed) →
-    Legal Stands moved (record { pool = p; owed = owed }) ts →
-    let j = state_after moved (record { pool = p; owed = owed }) ts in BornIn j.pool (told dials_by (told dials_by d (entries_of ts)) j.owed)
-BornIn-legal p owed [] d b l = b
-BornIn-legal p [] (t ∷ ts) d b l =
-    BornIn-legal (after p t.at t.what) (owes p t.what) ts (dials_by d t.what) (rw (dials_by-owes p t.what (dials_by d t.what)) (BornIn-after p t.at t.what d b l.0)) l.1
-BornIn-legal p (x ∷ xs) (t ∷ ts) d b l =
-    BornIn-legal p xs ts (dials_by d t.what) (subst (λ e. BornIn p (told dials_by (dials_by d e) xs)) (sym l.0) b) l.1
+BornIn-reads : Reads pool_judge Sound BornIn dials_by
+BornIn-reads = record {
+  keeps = Sound-keeps;
+  each = λ p moment e d s b m. rw (dials_by-owes p e (dials_by d e)) (BornIn-after p moment e d b m);
+}
 
-BornIn-fresh : (rules : PoolRules) → BornIn (fresh_pool rules) no_dials
+BornIn-fresh : (rules : PoolRules) → BornIn (fresh_pool rules) none_begun
 BornIn-fresh rules = record {
   generation = refl;
-  pending = All-nil (λ (h : Held). born_of h.conn [] ≡ Some h.generation);
-  lent = All-nil (λ (h : Held). born_of h.conn [] ≡ Some h.generation);
-  available = All-nil (λ (a : Available). born_of a.conn [] ≡ Some a.generation);
+  pending = All-nil (λ (h : Held). generation_of h.conn [] ≡ Some h.generation);
+  lent = All-nil (λ (h : Held). generation_of h.conn [] ≡ Some h.generation);
+  available = All-nil (λ (a : Available). generation_of a.conn [] ≡ Some a.generation);
   later = λ conn l. refl;
 }
+
+-- the generations of a trail's dials
+pub BornIn-legal : (rules : PoolRules) (ts : List (Timed PoolEntry)) → IsTrail rules ts →
+    BornIn (place_behind rules ts).state (state_after dials_by (state_after dials_by none_begun (entries_of ts)) (place_behind rules ts).owed)
+BornIn-legal rules ts l = Reads-legal pool_judge Sound BornIn dials_by BornIn-reads (fresh_pool rules) [] ts none_begun (Sound-fresh rules) (BornIn-fresh rules) l
+
+-- the same with those that must follow
+pub BornIn-trail : (rules : PoolRules) (ts : List (Timed PoolEntry)) → IsTrail rules ts →
+    BornIn (place_behind rules ts).state (state_after dials_by none_begun (entries_and_owed rules ts))
+BornIn-trail rules ts l = Reads-trail pool_judge Sound BornIn dials_by BornIn-reads (fresh_pool rules) ts none_begun (Sound-fresh rules) (BornIn-fresh rules) l
 
 times-pairs : (conn : ℕ) (hs : List Held) → times (λ (q : Pair). eqb q.conn conn) (pairs_of hs) ≡ times_held conn hs
 times-pairs conn [] = refl
@@ -350,8 +360,8 @@ counts_itself k = rw (eq-eqb k k refl) refl
 
 -- what holds at a place where a connection is lent
 free_at : (p : Pool) (owed es : List PoolEntry) (moment number conn : ℕ) → Sound p → Pays p owed →
-    told lent_by (told lent_by [] es) owed ≡ pairs_of p.lent → told generation_by (told generation_by 0 es) owed ≡ p.generation →
-    BornIn p (told dials_by (told dials_by no_dials es) owed) →
+    state_after lent_by (state_after lent_by [] es) owed ≡ pairs_of p.lent → state_after generation_by (state_after generation_by 0 es) owed ≡ p.generation →
+    BornIn p (state_after dials_by (state_after dials_by none_begun es) owed) →
     ComesNext owed (Lent number conn) (MayStand p moment (Lent number conn)) → IsFree es conn
 free_at p [] es moment number conn s h l g b m =
     let last = last_of-Some (last_of p.available) conn m.3 in
@@ -359,46 +369,44 @@ free_at p [] es moment number conn s h l g b m =
     let k = length p.available - 1 in
     let there = times-at (λ (a : Available). eqb a.conn conn) p.available k last.0 last.1 (eq-eqb _ _ same) in
     let absent : times_held conn p.lent ≡ 0 = omega (arith, s.once conn) in
-    let none : times (λ (q : Pair). eqb q.conn conn) (told lent_by [] es) ≡ 0 = rw (l, times-pairs conn p.lent) absent in
+    let none : times (λ (q : Pair). eqb q.conn conn) (state_after lent_by [] es) ≡ 0 = rw (l, times-pairs conn p.lent) absent in
     let current = swept_current p moment k last.0 (and-right _ _ m.2) last.1 in
-    let own = All-at (λ (a : Available). born_of a.conn (told dials_by no_dials es).born ≡ Some a.generation) p.available k last.0 b.available last.1 in
+    let own = All-at (λ (a : Available). generation_of a.conn (state_after dials_by none_begun es).begun ≡ Some a.generation) p.available k last.0 b.available last.1 in
     record {
       no_borrower = list_any-times_none _ _ none;
-      current = subst (λ c. born_of c (told dials_by no_dials es).born ≡ Some (told generation_by 0 es)) same (own ∙ ap (λ n. Some n) (current ∙ sym g));
+      current = subst (λ c. generation_of c (state_after dials_by none_begun es).begun ≡ Some (state_after generation_by 0 es)) same (own ∙ ap (λ n. Some n) (current ∙ sym g));
     }
 free_at p (d ∷ ds) es moment number conn s h l g b m =
-    paid p ds s (subst (λ e. Pays p (e ∷ ds)) (sym m) h) (subst (λ e. told lent_by (told lent_by [] es) (e ∷ ds) ≡ pairs_of p.lent) (sym m) l)
-    (subst (λ e. told generation_by (told generation_by 0 es) (e ∷ ds) ≡ p.generation) (sym m) g)
-    (subst (λ e. BornIn p (told dials_by (told dials_by no_dials es) (e ∷ ds))) (sym m) b) where
-      lent_alone : (q : Pool) → Sound q → HasLent q number conn → told lent_by [] es ++ record { ticket = number; conn = conn } ∷ [] ≡ pairs_of q.lent →
-          told generation_by 0 es ≡ q.generation → BornIn q (told dials_by no_dials es) → IsFree es conn
+    paid p ds s (subst (λ e. Pays p (e ∷ ds)) (sym m) h) (subst (λ e. state_after lent_by (state_after lent_by [] es) (e ∷ ds) ≡ pairs_of p.lent) (sym m) l)
+    (subst (λ e. state_after generation_by (state_after generation_by 0 es) (e ∷ ds) ≡ p.generation) (sym m) g)
+    (subst (λ e. BornIn p (state_after dials_by (state_after dials_by none_begun es) (e ∷ ds))) (sym m) b) where
+      lent_alone : (q : Pool) → Sound q → HasLent q number conn → state_after lent_by [] es ++ record { ticket = number; conn = conn } ∷ [] ≡ pairs_of q.lent →
+          state_after generation_by 0 es ≡ q.generation → BornIn q (state_after dials_by none_begun es) → IsFree es conn
       lent_alone q sq x lq gq bq =
-          let own = All-find (λ (k : Held). born_of k.conn (told dials_by no_dials es).born ≡ Some k.generation) (λ (k : Held). eqb k.conn conn) q.lent x.held bq.lent x.found in
+          let own = All-find (λ (k : Held). generation_of k.conn (state_after dials_by none_begun es).begun ≡ Some k.generation) (λ (k : Held). eqb k.conn conn) q.lent x.held bq.lent x.found in
           let same = eqb-true _ _ (find-passes (λ (k : Held). eqb k.conn conn) q.lent x.held x.found) in
-          let pushed : times (λ (r : Pair). eqb r.conn conn) (told lent_by [] es ++ record { ticket = number; conn = conn } ∷ []) ≡ times (λ (r : Pair). eqb r.conn conn) (told lent_by [] es) + cond (eqb conn conn) 1 0 = times-push (λ (r : Pair). eqb r.conn conn) (told lent_by [] es) (record { ticket = number; conn = conn }) in
-          let all : times (λ (r : Pair). eqb r.conn conn) (told lent_by [] es ++ record { ticket = number; conn = conn } ∷ []) ≡ times_held conn q.lent = rw lq (times-pairs conn q.lent) in
-          let none : times (λ (r : Pair). eqb r.conn conn) (told lent_by [] es) ≡ 0 = omega (arith, sq.once conn, counts_itself conn) in
+          let pushed : times (λ (r : Pair). eqb r.conn conn) (state_after lent_by [] es ++ record { ticket = number; conn = conn } ∷ []) ≡ times (λ (r : Pair). eqb r.conn conn) (state_after lent_by [] es) + cond (eqb conn conn) 1 0 = times-push (λ (r : Pair). eqb r.conn conn) (state_after lent_by [] es) (record { ticket = number; conn = conn }) in
+          let all : times (λ (r : Pair). eqb r.conn conn) (state_after lent_by [] es ++ record { ticket = number; conn = conn } ∷ []) ≡ times_held conn q.lent = rw lq (times-pairs conn q.lent) in
+          let none : times (λ (r : Pair). eqb r.conn conn) (state_after lent_by [] es) ≡ 0 = omega (arith, sq.once conn, counts_itself conn) in
           record {
             no_borrower = list_any-times_none _ _ none;
-            current = subst (λ c. born_of c (told dials_by no_dials es).born ≡ Some (told generation_by 0 es)) same (own ∙ ap (λ n. Some n) (x.current ∙ sym gq));
+            current = subst (λ c. generation_of c (state_after dials_by none_begun es).begun ≡ Some (state_after generation_by 0 es)) same (own ∙ ap (λ n. Some n) (x.current ∙ sym gq));
           }
 
-      paid : (q : Pool) (xs : List PoolEntry) → Sound q → Pays q (Lent number conn ∷ xs) → told lent_by (told lent_by [] es) (Lent number conn ∷ xs) ≡ pairs_of q.lent →
-          told generation_by (told generation_by 0 es) (Lent number conn ∷ xs) ≡ q.generation → BornIn q (told dials_by (told dials_by no_dials es) (Lent number conn ∷ xs)) → IsFree es conn
+      paid : (q : Pool) (xs : List PoolEntry) → Sound q → Pays q (Lent number conn ∷ xs) → state_after lent_by (state_after lent_by [] es) (Lent number conn ∷ xs) ≡ pairs_of q.lent →
+          state_after generation_by (state_after generation_by 0 es) (Lent number conn ∷ xs) ≡ q.generation → BornIn q (state_after dials_by (state_after dials_by none_begun es) (Lent number conn ∷ xs)) → IsFree es conn
       paid q [] sq x lq gq bq = lent_alone q sq x.1 lq gq bq
       paid q (y ∷ ys) sq x lq gq bq = absurd (let no = x.0 in cc)
 
 -- each connection that is lent was free
-pub lent_free : (rules : PoolRules) (ts : List Timed) (moment number conn : ℕ) →
+pub lent_free : (rules : PoolRules) (ts : List (Timed PoolEntry)) (moment number conn : ℕ) →
     IsTrail rules (ts ++ record { at = moment; what = Lent number conn } ∷ []) → IsFree (entries_of ts) conn
 lent_free rules ts moment number conn l =
-    let start = settled (fresh_pool rules) in
-    let last : Timed = record { at = moment; what = Lent number conn } in
-    let front = Legal-front Stands moved start ts (last ∷ []) l in
-    let rest = Legal-rest Stands moved start ts (last ∷ []) l in
+    let last : Timed PoolEntry = record { at = moment; what = Lent number conn } in
+    let front = IsTrail-front pool_judge (fresh_pool rules) ts (last ∷ []) l in
+    let rest = IsTrail-rest pool_judge (fresh_pool rules) ts (last ∷ []) l in
     let j = place_behind rules ts in
-    free_at j.pool j.owed (entries_of ts) moment number conn (Sound-trail rules ts front)
-    (Pays-legal (fresh_pool rules) [] ts (Sound-fresh rules) tt front)
-    (told-legal (λ p. pairs_of p.lent) lent_by Tells-lent_by (fresh_pool rules) [] ts [] (Sound-fresh rules) refl front)
-    (told-legal (λ p. p.generation) generation_by Tells-generation_by (fresh_pool rules) [] ts 0 (Sound-fresh rules) refl front)
-    (BornIn-legal (fresh_pool rules) [] ts no_dials (BornIn-fresh rules) front) rest.0
+    free_at j.state j.owed (entries_of ts) moment number conn (Sound-trail rules ts front) (Pays-trail rules ts front)
+    (ReadsAs-legal (λ p. pairs_of p.lent) lent_by ReadsAs-lent_by rules ts front)
+    (ReadsAs-legal (λ p. p.generation) generation_by ReadsAs-generation_by rules ts front)
+    (BornIn-legal rules ts front) rest.0

@@ -1,8 +1,12 @@
 pub mod ListLemmas
+pub mod TicketLemmas
 pub mod AnswerLemmas
+pub mod QuietLemmas
 pub mod TimesLemmas
 pub mod SoundLemmas
-pub mod ToldLemmas
-pub mod TrailLemmas
+pub mod ReadingLemmas
 pub mod LentLemmas
 pub mod SpentLemmas
+pub mod EnteredLemmas
+pub mod CountLemmas
+pub mod GoneLemmas

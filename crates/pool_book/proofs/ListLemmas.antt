@@ -2,7 +2,7 @@
 use Rattle.std.proofs.Common.{◌≡◌, ℕ, ◌+◌, ◌≤◌, Bool, true, false, not, cond, eqb, List, [], ◌∷◌, length, Option, Some, None, IsSome, IfNone, OnSome, refl, ap, sym, ◌∙◌, ◌||◌, arith}
 use Rattle.std.specs.List.{filter, find, list_any}
 use Rattle.std.proofs.lemmas.List.Filters.{length-filter_both}
-use Rattle.wait_line.specs.Line.{is_first, without_number}
+use Rattle.wait_line.specs.Queue.{is_first, without_number}
 use Rattle.pool_book.specs.declared.ticket.Ticket.{Ticket}
 use Rattle.pool_book.specs.Pool.{without_ticket, numbers_of}
 

@@ -14,7 +14,12 @@ use Rattle.pool_book.specs.declared.connections.Held.{Held}
 use Rattle.pool_book.specs.declared.connections.Available.{Available}
 use Rattle.pool_book.specs.Pool.{Pool, fresh_pool, is_closed, is_ready, ticket_of, without_ticket, held_of, without_held, without_available, last_of, is_kept}
 use Rattle.pool_book.specs.Entries.{PoolEntry, Ready, Clear, Shut, Entered, Left, Lent, Dialled, Settled, NotLent, CheckedIn, ConnShut, Closed, Cleared, Late, Lost, MayStand, after, owes, cleared_state, lend, returned, ticket_for}
-use Rattle.pool_book.specs.Judge.{Timed, Legal, Stands, moved, state_after, IsTrail, place_behind}
+use Rattle.entry_judge.specs.declared.timed.Timed.{Timed}
+use Rattle.entry_judge.specs.Judge.{Legal, state_after}
+use Rattle.entry_judge.specs.Groups.{Stands, ComesNext, Place, next_place, nothing_owed, entries_of}
+use Rattle.entry_judge.specs.GroupLaws.{IsTrail-front, IsTrail-rest}
+use Rattle.entry_judge.specs.InvariantLaws.{Keeps, Keeps-legal, KeepsOwed, KeepsOwed-legal, Reads, Reads-legal, Reads-trail}
+use Rattle.pool_book.specs.Judge.{pool_judge, IsTrail, place_behind}
 use Rattle.pool_book.specs.Sound.{Sound, times, times_held, times_available, times_of, times_waiting, times_holding, times_in}
 use Rattle.pool_book.proofs.ListLemmas.{find-passes}
 use Rattle.pool_book.proofs.TimesLemmas.{times-push, times-filter_most, times-taken, times-last}
@@ -269,12 +274,41 @@ Sound-after p moment (NotLent number (Lost conn)) s m = Sound-gone p conn s
 Sound-after p moment (CheckedIn number conn errored) s m = Sound-checked_in p moment number conn errored m.0 s m.1
 Sound-after p moment (ConnShut conn reason) s m = Sound-swept p conn s
 
--- and so along a trail
-pub Sound-legal : (p : Pool) (owed : List PoolEntry) (ts : List Timed) → Sound p → Legal Stands moved (record { pool = p; owed = owed }) ts →
-    Sound (state_after moved (record { pool = p; owed = owed }) ts).pool
-Sound-legal p owed [] s l = s
-Sound-legal p [] (t ∷ ts) s l = Sound-legal (after p t.at t.what) (owes p t.what) ts (Sound-after p t.at t.what s l.0) l.1
-Sound-legal p (d ∷ ds) (t ∷ ts) s l = Sound-legal p ds ts s l.1
+-- behind an entry a connection that was dialled stands no more often than ahead of it, and the dials go on
+pub times_of-after : (p : Pool) (moment : ℕ) (e : PoolEntry) (k : ℕ) → Sound p → MayStand p moment e → k ≤ p.dialled →
+    (times_of (after p moment e) k ≤ times_of p k) × (p.dialled ≤ (after p moment e).dialled)
+times_of-after p moment Ready k s m d = (omega arith, omega arith)
+times_of-after p moment Clear k s m d = (omega arith, omega arith)
+times_of-after p moment Shut k s m d = (omega arith, omega arith)
+times_of-after p moment (Entered number) k s m d = (omega arith, omega arith)
+times_of-after p moment (Left number) k s m d = (omega arith, omega arith)
+times_of-after p moment (Lent number conn) k s m d =
+    let last = last_of-Some (last_of p.available) conn m.3 in
+    (omega (arith, times_held-lend number p.available p.lent last.0 k last.1), omega arith)
+times_of-after p moment (Dialled number conn) k s m d =
+    let new : Held = record { conn = conn; ticket = number; generation = p.generation } in
+    let pushed : times_held k (p.pending ++ new ∷ []) ≡ times_held k p.pending + cond (eqb conn k) 1 0 = times-push (λ (x : Held). eqb x.conn k) p.pending new in
+    let other : eqb conn k ≡ false = elim (eqb_tells conn k) [ inl w ↦ absurd (omega (arith, w.1, m.5)) | inr w ↦ w.0 ] in
+    let none : cond {A = ℕ} (eqb conn k) 1 0 ≡ 0 = rw other refl in
+    (omega (arith, none), omega (arith, m.5))
+times_of-after p moment (Settled number conn true) k s m d =
+    let fewer : times_held k (without_held conn p.pending) ≤ times_held k p.pending = times-filter_most _ _ p.pending in (omega arith, omega arith)
+times_of-after p moment (Settled number conn false) k s m d =
+    let alone : times_held conn p.pending ≤ 1 = omega (arith, s.once conn) in
+    (omega (arith, times-settled (λ (x : Held). eqb x.conn k) conn p.pending p.lent m.0 m.1 alone), omega arith)
+times_of-after p moment (NotLent number Closed) k s m d = (omega arith, omega arith)
+times_of-after p moment (NotLent number (Cleared g)) k s m d = (omega arith, omega arith)
+times_of-after p moment (NotLent number Late) k s m d = (omega arith, omega arith)
+times_of-after p moment (NotLent number (Lost conn)) k s m d =
+    let fewer : times_held k (without_held conn p.pending) ≤ times_held k p.pending = times-filter_most _ _ p.pending in (omega arith, omega arith)
+times_of-after p moment (CheckedIn number conn errored) k s m d =
+    let alone : times_held conn p.lent ≤ 1 = omega (arith, s.once conn) in
+    (omega (arith, times-returned_most p moment errored conn k m.0 m.1 alone), omega arith)
+times_of-after p moment (ConnShut conn reason) k s m d =
+    let fewer : times_available k (without_available conn p.available) ≤ times_available k p.available = times-filter_most _ _ p.available in (omega arith, omega arith)
+
+pub Sound-keeps : Keeps pool_judge Sound
+Sound-keeps = record { each = Sound-after }
 
 pub Sound-fresh : (rules : PoolRules) → Sound (fresh_pool rules)
 Sound-fresh rules = record {
@@ -287,5 +321,5 @@ Sound-fresh rules = record {
 }
 
 -- the pool behind a trail is sound
-pub Sound-trail : (rules : PoolRules) (ts : List Timed) → IsTrail rules ts → Sound (place_behind rules ts).pool
-Sound-trail rules ts l = Sound-legal (fresh_pool rules) [] ts (Sound-fresh rules) l
+pub Sound-trail : (rules : PoolRules) (ts : List (Timed PoolEntry)) → IsTrail rules ts → Sound (place_behind rules ts).state
+Sound-trail rules ts l = Keeps-legal pool_judge Sound Sound-keeps (fresh_pool rules) [] ts (Sound-fresh rules) l

@@ -73,3 +73,12 @@ times-last q [] x e = absurd (cc)
 times-last q (y ∷ ys) x e =
     let same : length (y ∷ ys) - 1 ≡ length ys = omega arith in
     rw same (times-last_at q (length ys) (y ∷ ys) x refl (rw same at e))
+
+-- the filter by those that do not pass keeps none that does
+pub times-filter_none : {X : Type 0} (p : X → Bool) (xs : List X) → times p (filter (λ x. not (p x)) xs) ≡ 0
+times-filter_none p [] = refl
+times-filter_none p (x ∷ xs) =
+    elim (p x) as (λ b. p x ≡ b → times p (cond (not b) (x ∷ filter (λ y. not (p y)) xs) (filter (λ y. not (p y)) xs)) ≡ 0) [
+      | true ↦ λ _. times-filter_none p xs
+      | false ↦ λ e. rw e (let rest = times-filter_none p xs in omega arith)
+    ] refl

@@ -8,7 +8,7 @@ use Rattle.pool_book.specs.declared.connections.Held.{Held}
 use Rattle.pool_book.specs.declared.connections.Available.{Available}
 use Rattle.pool_book.specs.declared.answers.CloseReason.{CloseReason}
 use Rattle.pool_book.specs.declared.answers.CloseReason.TheVariants.{Errored, PoolClosed}
-use Rattle.pool_book.specs.Pool.{Pool, is_paused, is_closed, ticket_of, without_ticket, held_of, without_held, without_available, last_of, is_perished, perish_reason, shut_reason, is_worthless, is_kept, is_cleared, is_late, is_served, has_place, can_take}
+use Rattle.pool_book.specs.Pool.{Pool, is_paused, is_closed, ticket_of, without_ticket, held_of, without_held, without_available, last_of, is_perished, perish_reason, shut_reason, is_worthless, is_kept, is_cleared, is_late, is_served, has_room, can_take}
 
 -- Why a ticket has no connection (CMAP, ConnectionCheckOutFailedEvent: poolClosed, connectionError for a cleared pool,
 -- timeout, connectionError for a connection that was lost as it was dialled).
@@ -93,14 +93,14 @@ refusal p = if is_closed p.state then Closed else Cleared p.generation
 abbrev pub owes_shut : Pool → Bool → Option Held → List PoolEntry
 owes_shut p errored None = []
 owes_shut p errored (Some h) =
-    if is_kept p errored h then [] else ConnShut h.conn (shut_reason p errored) ∷ []
+    if is_kept p errored h then [] else ConnShut h.conn (shut_reason p.state errored) ∷ []
 
 -- What must follow an entry at once, of the pool ahead of it: each available connection of a pool that is closed is
 -- shut; one that settles is lent, or shut where it is worthless, and its ticket gets nothing; one that was lost, or is
 -- not kept, is shut (CMAP, Closing a Connection Pool, Establishing a Connection, Checking In a Connection).
 abbrev pub owes : Pool → PoolEntry → List PoolEntry
 owes p Shut = map (λ a. ConnShut a.conn PoolClosed) p.available
-owes p (Settled number conn true) = ConnShut conn (shut_reason p false) ∷ NotLent number (refusal p) ∷ []
+owes p (Settled number conn true) = ConnShut conn (shut_reason p.state false) ∷ NotLent number (refusal p) ∷ []
 owes p (Settled number conn false) = Lent number conn ∷ []
 owes p (NotLent number (Lost conn)) = ConnShut conn Errored ∷ []
 owes p (CheckedIn number conn errored) = owes_shut p errored (held_of conn p.lent)
@@ -111,9 +111,9 @@ owes p _ = []
 -- Connection).
 abbrev pub MayRefuse : Pool → ℕ → Ticket → CheckOutFailure → Type 0
 MayRefuse p moment t Closed = is_closed p.state ≡ true
-MayRefuse p moment t (Cleared g) = (is_closed p.state ≡ false) × (is_cleared p t ≡ true) × (g ≡ p.generation)
+MayRefuse p moment t (Cleared g) = (is_closed p.state ≡ false) × (is_cleared p.state p.generation t.generation ≡ true) × (g ≡ p.generation)
 MayRefuse p moment t Late =
-    (is_closed p.state ≡ false) × (is_cleared p t ≡ false) × (can_take p moment t ≡ false) × (is_late p moment t ≡ true)
+    (is_closed p.state ≡ false) × (is_cleared p.state p.generation t.generation ≡ false) × (can_take p moment t ≡ false) × (is_late p.rules t.entered moment ≡ true)
 MayRefuse p moment t (Lost conn) = ⊥
 
 -- When an entry that does not have to follow another may stand (CMAP, Connection Pool).
@@ -128,9 +128,9 @@ MayStand p moment (Lent number conn) =
     × (option_map (λ a. a.conn) (last_of p.available) ≡ Some conn)
 MayStand p moment (Dialled number conn) =
     (t : Ticket) × (ticket_of number p.waiting ≡ Some t) × (is_served p moment t ≡ true)
-    × (p.available ≡ []) × (has_place p ≡ true) × (conn ≡ p.dialled + 1)
+    × (p.available ≡ []) × (has_room p ≡ true) × (conn ≡ p.dialled + 1)
 MayStand p moment (Settled number conn stale) =
-    (h : Held) × (held_of conn p.pending ≡ Some h) × (number ≡ h.ticket) × (stale ≡ is_worthless p h)
+    (h : Held) × (held_of conn p.pending ≡ Some h) × (number ≡ h.ticket) × (stale ≡ is_worthless p.state p.generation h.generation)
 MayStand p moment (NotLent number (Lost conn)) =
     (h : Held) × (held_of conn p.pending ≡ Some h) × (number ≡ h.ticket)
 MayStand p moment (NotLent number why) =
@@ -139,9 +139,4 @@ MayStand p moment (CheckedIn number conn errored) =
     (h : Held) × (held_of conn p.lent ≡ Some h) × (number ≡ h.ticket)
 MayStand p moment (ConnShut conn reason) =
     (a : Available) × (k : ℕ) × (slice_get p.available k ≡ Some a) × (is_perished p moment a ≡ true)
-    × (conn ≡ a.conn) × (reason ≡ perish_reason p a)
-
--- The pool goes on by an entry that may stand, and by what must follow it, to another pool (own: what a call does).
-pub record Goes (p : Pool) (moment : ℕ) (e : PoolEntry) (q : Pool) : Type 0 where
-  pub stands : MayStand p moment e
-  pub moves : q ≡ after p moment e
+    × (conn ≡ a.conn) × (reason ≡ perish_reason p.generation a.generation)

@@ -1,5 +1,5 @@
 -- What a book keeps, and what it shows of it.
-use Rattle.std.specs.Prelude.{ℕ, ◌+◌, ◌^◌, ◌<◌, ◌≤◌, length, vec_capacity}
+use Rattle.std.specs.Prelude.{ℕ, ◌+◌, ◌^◌, ◌<◌, ◌≤◌, length}
 use Rattle.pool_book.specs.Pool.{Pool}
 use Rattle.pool_book.specs.declared.book.PoolBook.TheInside.{Inside}
 
@@ -21,10 +21,11 @@ pool_of b = record {
 abbrev pub places_of : Inside → ℕ
 places_of b = length b.line.items + length b.pending.items + length b.lent.items + length b.available.items
 
--- Each of them has room wherever it may come to stand, and a number is left for each that is still to be dialled (own: the invariant, by which no call but enter takes memory).
+-- Each of them has room wherever it may come to stand, and a number is left for each that is still to be dialled (own:
+-- the invariant, by which no call but enter takes memory).
 pub record HasRoom (b : Inside) : Type 0 where
   pub pending : places_of b ≤ b.pending.room
   pub lent : places_of b ≤ b.lent.room
-  pub available : places_of b ≤ vec_capacity b.available
+  pub available : places_of b ≤ b.available.room
   pub numbers : b.dialled + length b.line.items ≤ b.line.given
   pub counted : b.line.given < 2 ^ 64

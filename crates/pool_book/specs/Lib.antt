@@ -4,6 +4,6 @@ pub mod Entries
 pub mod Answers
 pub mod Parts
 pub mod Inside
-pub mod Told
+pub mod Readings
 pub mod Sound
 pub mod Laws

@@ -1,7 +1,7 @@
 -- A connection pool, as its book shows it (CMAP, Connection Pool).
 use Rattle.std.specs.Prelude.{ℕ, ◌+◌, ◌-◌, Bool, true, false, not, ◌&&◌, ◌||◌, ◌==◌, nat_lt, nat_le, Option, List, [], length, filter, find, map, slice_get, if◌then◌else◌}
 use Rattle.std.specs.List.{list_any}
-use Rattle.wait_line.specs.Line.{is_first}
+use Rattle.wait_line.specs.Queue.{is_first}
 use Rattle.pool_book.specs.declared.rules.PoolRules.{PoolRules}
 use Rattle.pool_book.specs.declared.state.PoolState.{PoolState}
 use Rattle.pool_book.specs.declared.state.PoolState.TheVariants as state_of
@@ -90,59 +90,66 @@ abbrev pub total : Pool → ℕ
 total p = length p.pending + length p.lent + length p.available
 
 -- A connection's generation is not the pool's (CMAP, Connection is stale).
-abbrev pub is_stale : Pool → ℕ → Bool
-is_stale p g = not (g == p.generation)
+abbrev pub is_stale : (of_pool of_conn : ℕ) → Bool
+is_stale of_pool of_conn = not (of_conn == of_pool)
 
--- An available connection has been so for longer than the rules allow, where they limit it (CMAP, Connection is idle).
-abbrev pub is_idle : Pool → ℕ → Available → Bool
-is_idle p moment a = not (p.rules.idle_micros == 0) && nat_lt (a.since + p.rules.idle_micros) moment
+-- A connection that is available since a moment has been so for longer than the rules allow, where they limit it (CMAP,
+-- Connection is idle).
+abbrev pub is_idle : PoolRules → (since moment : ℕ) → Bool
+is_idle r since moment = not (r.idle_micros == 0) && nat_lt (since + r.idle_micros) moment
 
 -- An available connection is stale or idle (CMAP, a connection is perished).
 abbrev pub is_perished : Pool → ℕ → Available → Bool
-is_perished p moment a = is_stale p a.generation || is_idle p moment a
+is_perished p moment a = is_stale p.generation a.generation || is_idle p.rules a.since moment
 
 -- No available connection has perished, so that a sweep finds nothing (CMAP, Checking Out a Connection).
 abbrev pub is_swept : Pool → ℕ → Bool
 is_swept p moment = not (list_any (is_perished p moment) p.available)
 
 -- Why a perished connection is shut: the first reason that holds (CMAP, ConnectionClosedEvent).
-abbrev pub perish_reason : Pool → Available → CloseReason
-perish_reason p a = if is_stale p a.generation then Stale else Idle
+abbrev pub perish_reason : (of_pool of_conn : ℕ) → CloseReason
+perish_reason of_pool of_conn = if is_stale of_pool of_conn then Stale else Idle
 
 -- Why a connection that does not come back in is shut: the first reason that holds (CMAP, Checking In a Connection).
-abbrev pub shut_reason : Pool → Bool → CloseReason
-shut_reason p errored = if errored then Errored else (if is_closed p.state then PoolClosed else Stale)
+abbrev pub shut_reason : PoolState → Bool → CloseReason
+shut_reason s errored = if errored then Errored else (if is_closed s then PoolClosed else Stale)
 
--- A pending or lent connection is of no more use: the pool is closed, or its generation is not the connection's (CMAP, Establishing a Connection, Checking In a Connection).
-abbrev pub is_worthless : Pool → Held → Bool
-is_worthless p h = is_closed p.state || is_stale p h.generation
+-- A pending or lent connection is of no more use: the pool is closed, or its generation is not the connection's (CMAP,
+-- Establishing a Connection, Checking In a Connection).
+abbrev pub is_worthless : PoolState → (of_pool of_conn : ℕ) → Bool
+is_worthless s of_pool of_conn = is_closed s || is_stale of_pool of_conn
 
 -- A lent connection is available again once it is checked in: it did not fail, the pool is not closed, and the
 -- generation is the pool's (CMAP, Checking In a Connection).
 abbrev pub is_kept : Pool → Bool → Held → Bool
-is_kept p errored h = not errored && not (is_worthless p h)
+is_kept p errored h = not errored && not (is_worthless p.state p.generation h.generation)
 
 -- A ticket gets nothing in a pool that is not closed: the pool is paused, or its generation exceeds the ticket's
 -- (CMAP, PoolClearedError).
-abbrev pub is_cleared : Pool → Ticket → Bool
-is_cleared p t = is_paused p.state || nat_lt t.generation p.generation
+abbrev pub is_cleared : PoolState → (of_pool of_ticket : ℕ) → Bool
+is_cleared s of_pool of_ticket = is_paused s || nat_lt of_ticket of_pool
 
--- A ticket has waited as long as the rules allow, where they limit it (CMAP, waitQueueTimeoutMS).
-abbrev pub is_late : Pool → ℕ → Ticket → Bool
-is_late p moment t = not (p.rules.wait_micros == 0) && nat_le (t.entered + p.rules.wait_micros) moment
+-- A ticket that entered at a moment has waited as long as the rules allow, where they limit it (CMAP,
+-- waitQueueTimeoutMS).
+abbrev pub is_late : PoolRules → (entered moment : ℕ) → Bool
+is_late r entered moment = not (r.wait_micros == 0) && nat_le (entered + r.wait_micros) moment
 
 -- A ticket is served: the pool is ready, the ticket's generation current, its number the first of the line, and no
 -- available connection has perished (CMAP, Checking Out a Connection).
 abbrev pub is_served : Pool → ℕ → Ticket → Bool
 is_served p moment t =
-    is_ready p.state && not (is_cleared p t) && is_first (numbers_of p.waiting) t.number && is_swept p moment
+    is_ready p.state && not (is_cleared p.state p.generation t.generation) && is_first (numbers_of p.waiting) t.number && is_swept p moment
 
--- There is room to dial: total is below the greatest size, pending below maxConnecting (CMAP, Checking Out a
--- Connection).
-abbrev pub has_place : Pool → Bool
-has_place p = nat_lt (total p) p.rules.max_size && nat_lt (length p.pending) p.rules.max_connecting
+-- There is room to dial, where there are so many connections and so many of them are pending: all are fewer than the
+-- greatest size, and the pending ones fewer than maxConnecting (CMAP, Checking Out a Connection).
+abbrev pub may_dial : PoolRules → (all pending : ℕ) → Bool
+may_dial r all pending = nat_lt all r.max_size && nat_lt pending r.max_connecting
+
+-- The same of a pool (CMAP, Checking Out a Connection).
+abbrev pub has_room : Pool → Bool
+has_room p = may_dial p.rules (total p) (length p.pending)
 
 -- A ticket may have a connection or dial one: it is served, and one is available or there is room to dial (CMAP,
 -- Checking Out a Connection).
 abbrev pub can_take : Pool → ℕ → Ticket → Bool
-can_take p moment t = is_served p moment t && (nat_lt 0 (length p.available) || has_place p)
+can_take p moment t = is_served p moment t && (nat_lt 0 (length p.available) || has_room p)

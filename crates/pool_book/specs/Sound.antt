@@ -30,6 +30,12 @@ times_holding number hs = times (λ h. h.ticket == number) hs
 abbrev pub times_in : Pool → ℕ → ℕ
 times_in p number = times_waiting number p.waiting + times_holding number p.pending + times_holding number p.lent
 
+-- Each connection stands at most once among pending, lent and available, and none that was not dialled yet (own: an
+-- invariant of a pool's book).
+pub record Once (p : Pool) : Type 0 where
+  pub once : (conn : ℕ) → times_of p conn ≤ 1
+  pub dialled : (conn : ℕ) → p.dialled < conn → times_of p conn ≡ 0
+
 -- Each connection stands at most once among pending, lent and available, and none that was not dialled yet; each ticket
 -- waits, dials or has a connection at most once, and none that did not enter yet; nothing is available in a closed pool;
 -- and no ticket that waits is of a later generation than the pool (own: the invariant of the laws).

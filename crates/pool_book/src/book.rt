@@ -1,8 +1,9 @@
 ghost use Rattle.std.specs.Prelude.{◌≡◌, ℕ, ◌+◌, ◌-◌, ◌^◌, ◌<◌, ◌≤◌, true, false, is_some};
 ghost use Rattle.pool_book.specs.Pool.{Pool, fresh_pool, ticket_of, held_of, is_closed, is_paused};
 ghost use Rattle.pool_book.specs.Entries as entry;
-ghost use Rattle.pool_book.specs.Entries.{Goes};
+ghost use Rattle.pool_book.specs.Judge.{Goes};
 
+use crate::available_list::AvailableList;
 use crate::held_list::HeldList;
 use crate::ticket_line::TicketLine;
 use crate::{Available, PoolRules, PoolState, Ticket};
@@ -46,7 +47,7 @@ pub struct PoolBook {
     line: TicketLine,
     pending: HeldList,
     lent: HeldList,
-    available: Vec<Available>,
+    available: AvailableList,
     dialled: u64,
 }
 
@@ -76,7 +77,7 @@ impl PoolBook {
             line: TicketLine::new(alloc),
             pending: HeldList::new(alloc),
             lent: HeldList::new(alloc),
-            available: Vec::new(alloc),
+            available: AvailableList::new(alloc),
             dialled: 0,
         }
     }

@@ -1,4 +1,4 @@
-ghost use Rattle.std.specs.Prelude.{◌≡◌, ◌+◌, ◌<◌, ◌≤◌, [], ◌∷◌, ◌++◌, length, OnOk, OnErr, OnSome};
+ghost use Rattle.std.specs.Prelude.{◌≡◌, ◌^◌, ◌+◌, ◌<◌, ◌≤◌, [], ◌∷◌, ◌++◌, length, OnOk, OnErr, OnSome};
 ghost use Rattle.pool_book.specs.Pool.{held_of, without_held};
 ghost use Rattle.pool_book.specs.Parts.{Roomy};
 
@@ -31,7 +31,8 @@ impl HeldList {
     }
 
     pub(crate) fn len(&self) -> usize
-        ensures { result ≡ length self.now.items }
+        ensures len { result ≡ length self.now.items }
+        ensures fits { self.now.room < 2 ^ 63 }
     {
         self.items.len()
     }

@@ -18,6 +18,7 @@
 #![tactic(auto)]
 
 mod answers;
+mod available_list;
 mod book;
 mod connections;
 mod held_list;

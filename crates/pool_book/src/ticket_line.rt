@@ -1,18 +1,19 @@
-ghost use Rattle.std.specs.Prelude.{◌≡◌, ◌+◌, ◌-◌, ◌^◌, ◌<◌, ◌≤◌, [], ◌∷◌, ◌++◌, length, IfOk, OnOk, OnErr, IsSome, IsTrue};
-ghost use Rattle.wait_line.specs.Line.{is_first};
+ghost use Rattle.std.specs.Prelude.{◌≡◌, ◌+◌, ◌-◌, ◌^◌, ◌<◌, ◌≤◌, [], ◌∷◌, ◌++◌, length, slice_get, IfOk, OnOk, OnErr, IsSome, IsTrue};
+ghost use Rattle.wait_line.specs.Queue.{is_first};
 ghost use Rattle.pool_book.specs.Pool.{ticket_of, without_ticket, numbers_of};
 ghost use Rattle.pool_book.specs.Parts.{Tickets};
 
 use crate::{Memory, Ticket};
 use std::alloc::Global;
+use std::collections::VecDeque;
 use std::marker::Model;
 use wait_line::WaitLine;
 
-/// The line of a pool's tickets: their numbers' line, and beside it each ticket as it entered.
+/// The line of a pool's tickets: their numbers' line, and beside it each ticket as it entered, at the same place.
 #[derive(Debug, Drop)]
 pub(crate) struct TicketLine {
     line: WaitLine,
-    tickets: Vec<Ticket>,
+    tickets: VecDeque<Ticket>,
 }
 
 impl Model for TicketLine {
@@ -24,7 +25,9 @@ impl Model for TicketLine {
 
     ghost view = { λ l. record { items = l.tickets.items; given = l.line.given } };
 
-    ghost invariant = { λ l. l.line.waiting ≡ numbers_of l.tickets.items };
+    ghost use Rattle.pool_book.specs.Parts.{IsLine};
+
+    ghost invariant = { λ l. IsLine l.line.waiting l.line.given l.tickets.items };
 }
 
 impl TicketLine {
@@ -33,7 +36,7 @@ impl TicketLine {
     {
         TicketLine {
             line: WaitLine::new(alloc),
-            tickets: Vec::new(alloc),
+            tickets: VecDeque::new(alloc),
         }
     }
 
@@ -64,7 +67,7 @@ impl TicketLine {
             generation,
             entered: moment,
         };
-        self.tickets.push_reserved(ticket);
+        self.tickets.push_back_reserved(ticket);
         Ok(ticket)
     }
 
@@ -72,7 +75,15 @@ impl TicketLine {
     pub(crate) fn find(&self, number: u64) -> Option<Ticket>
         ensures { result ≡ ticket_of number self.now.items }
     {
-        self.tickets.iter().copied().find(|t| t.number == number)
+        let place = self.line.place(number)?;
+        self.at(place)
+    }
+
+    /// The ticket at this place, counted from the front.
+    fn at(&self, place: usize) -> Option<Ticket>
+        ensures { result ≡ slice_get self.now.items place }
+    {
+        self.tickets.get(place).copied()
     }
 
     pub(crate) fn is_front(&self, number: u64) -> bool
@@ -89,7 +100,10 @@ impl TicketLine {
         ensures bound { length self.new.items ≤ length self.old.items }
         ensures fewer { IsSome (ticket_of number self.old.items) → length self.new.items + 1 ≤ length self.old.items }
     {
+        let Some(place) = self.line.place(number) else {
+            return;
+        };
         self.line.leave(number);
-        self.tickets.retain(|t| t.number != number);
+        self.tickets.remove(place);
     }
 }

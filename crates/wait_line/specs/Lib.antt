@@ -1,1 +1,3 @@
-pub mod Line
+pub mod Queue
+pub mod Rising
+pub mod RisingLaws

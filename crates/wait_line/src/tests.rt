@@ -11,17 +11,17 @@ fn serves_in_order(rt: HostRuntime) -> Result<(), Fail> {
         assert!(rt; number < 3);
         assert_eq!(rt; line.enter()?, number);
     }
-    assert_eq!(rt; line.waiting(), [0, 1, 2].as_slice());
+    assert_eq!(rt; line.len(), 3);
     assert!(rt; line.is_waiting(1) && !line.is_waiting(7));
     line.leave(1);
     line.leave(7);
     assert!(rt; !line.is_waiting(1));
-    assert_eq!(rt; line.waiting(), [0, 2].as_slice());
+    assert_eq!(rt; (line.place(0), line.place(1), line.place(2)), (Some(0), None, Some(1)));
     assert!(rt; line.is_front(0) && !line.is_front(2));
     line.leave(0);
     assert!(rt; line.is_front(2));
     line.leave(2);
-    assert!(rt; line.waiting().is_empty() && !line.is_front(2));
+    assert!(rt; line.len() == 0 && !line.is_front(2));
     assert_eq!(rt; line.given(), 3);
     Ok(())
 }

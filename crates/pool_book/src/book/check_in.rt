@@ -2,10 +2,11 @@ ghost use Rattle.std.specs.Prelude.{◌≡◌, ℕ, ◌==◌, ◌||◌, not, if�
 ghost use Rattle.pool_book.specs.declared.connections.Held.{Held};
 ghost use Rattle.pool_book.specs.Pool.{Pool, held_of, is_closed, is_worthless};
 ghost use Rattle.pool_book.specs.Entries as entry;
-ghost use Rattle.pool_book.specs.Entries.{Goes};
+ghost use Rattle.pool_book.specs.Judge.{Goes};
 ghost use Rattle.pool_book.specs.Answers.{settled_answer, fate_answer};
 
-use crate::{Available, CloseReason, Fate, Held, PoolBook, PoolState, Settled};
+use crate::rules::{is_worthless, shut_reason};
+use crate::{Available, Fate, PoolBook, Settled};
 
 impl PoolBook {
     /// A pending connection is established (CMAP, Establishing a Connection): whoever dialled it has it, or it is gone.
@@ -13,12 +14,12 @@ impl PoolBook {
         requires { IsSome (held_of conn self.old.pending) }
         ensures answer { (h : Held) → held_of conn self.old.pending ≡ Some h → result ≡ settled_answer self.old h }
         ensures goes { (h : Held) → held_of conn self.old.pending ≡ Some h → (moment : ℕ)
-            → Goes self.old moment (entry.Settled h.ticket conn (is_worthless self.old h)) self.new }
+            → Goes self.old moment (entry.Settled h.ticket conn (is_worthless self.old.state self.old.generation h.generation)) self.new }
     {
         let Some(held) = self.pending.take_out(conn) else {
             unreachable!();
         };
-        if is_worthless(self.state, self.generation, &held) {
+        if is_worthless(self.state, self.generation, held.generation) {
             return Settled::Stale {
                 generation: self.generation,
             };
@@ -47,34 +48,14 @@ impl PoolBook {
         let Some(held) = self.lent.take_out(conn) else {
             unreachable!();
         };
-        if errored || is_worthless(self.state, self.generation, &held) {
+        if errored || is_worthless(self.state, self.generation, held.generation) {
             return Fate::Shut(shut_reason(self.state, errored));
         }
-        self.available.push_reserved(Available {
+        self.available.put(Available {
             conn: held.conn,
             generation: held.generation,
             since: moment,
         });
         Fate::Kept
-    }
-}
-
-/// Whether a pending or lent connection is of no more use to a pool of this state and generation.
-fn is_worthless(state: PoolState, generation: u64, held: &Held) -> bool
-    ensures { result ≡ (is_closed state || not (held.now.generation == generation)) }
-{
-    state == PoolState::Closed || held.generation != generation
-}
-
-/// Why a connection that is not kept is shut.
-fn shut_reason(state: PoolState, errored: bool) -> CloseReason
-    ensures { result ≡ (if errored then CloseReason.Errored else (if is_closed state then CloseReason.PoolClosed else CloseReason.Stale)) }
-{
-    if errored {
-        CloseReason::Errored
-    } else if state == PoolState::Closed {
-        CloseReason::PoolClosed
-    } else {
-        CloseReason::Stale
     }
 }

@@ -1,11 +1,13 @@
 ghost use Rattle.std.specs.Prelude.{◌≡◌, ℕ, ◌+◌, ◌-◌, ◌^◌, ◌<◌, ◌≤◌, ◌==◌, true, not, if◌then◌else◌, length, find, Some, None, IfOk, IfSome, IfNone, IsSome, OnSome, OnOk, OnErr};
 ghost use Rattle.pool_book.specs.declared.ticket.Ticket.{Ticket};
-ghost use Rattle.pool_book.specs.Pool.{Pool, ticket_of, without_ticket, is_swept, is_perished, has_place};
+ghost use Rattle.pool_book.specs.Pool.{Pool, ticket_of, without_ticket, is_swept, has_room};
 ghost use Rattle.pool_book.specs.Entries as entry;
-ghost use Rattle.pool_book.specs.Entries.{Goes, after, ticket_for};
+ghost use Rattle.pool_book.specs.Entries.{after, ticket_for};
+ghost use Rattle.pool_book.specs.Judge.{Goes};
 ghost use Rattle.pool_book.specs.Answers.{Answers, answer_due, swept_answer};
 
-use crate::{Available, CloseReason, Held, Memory, PoolBook, PoolState, Swept, Take, Ticket};
+use crate::rules::{is_cleared, perish_reason};
+use crate::{Held, Memory, PoolBook, PoolState, Swept, Take, Ticket};
 
 impl PoolBook {
     /// A ticket joins the line. The call takes all memory that the ticket's later calls need.
@@ -24,7 +26,7 @@ impl PoolBook {
             + 1;
         self.pending.reserve_for(places)?;
         self.lent.reserve_for(places)?;
-        self.available.reserve(places - self.available.len())?;
+        self.available.reserve_for(places)?;
         self.line.enter(self.generation, moment)
     }
 
@@ -45,21 +47,14 @@ impl PoolBook {
         ensures none { IfNone result ((is_swept self.old moment ≡ true) × (self.new ≡ self.old)) }
         ensures fewer { OnSome result (length self.new.available + 1 ≤ length self.old.available) }
     {
-        let perished = self.first_perished(moment)?;
-        self.available.retain(|a| a.conn != perished.conn);
+        let perished = self
+            .available
+            .first_perished(self.rules, self.generation, moment)?;
+        self.available.remove(perished.conn);
         Some(Swept {
             conn: perished.conn,
-            reason: perish_reason(self.generation, &perished),
+            reason: perish_reason(self.generation, perished.generation),
         })
-    }
-
-    /// The perished connection that was checked in before the others.
-    fn first_perished(&self, moment: u64) -> Option<Available>
-        ensures { result ≡ find (is_perished self.now moment) self.now.available }
-    {
-        let (rules, generation) = (self.rules, self.generation);
-        self.available.iter().copied().find(|a| a.generation != generation
-            || rules.is_idle(a.since, moment))
     }
 
     /// What a ticket of the line gets at this moment (CMAP, Checking Out a Connection). `sweep` comes first, until it
@@ -101,7 +96,7 @@ impl PoolBook {
         if self.state == PoolState::Closed {
             return Take::Closed;
         }
-        if self.state == PoolState::Paused || ticket.generation < self.generation {
+        if is_cleared(self.state, self.generation, ticket.generation) {
             return Take::Cleared {
                 generation: self.generation,
             };
@@ -110,7 +105,7 @@ impl PoolBook {
             if let Some(last) = self.available.last() {
                 return Take::Lent { conn: last.conn };
             }
-            if self.has_place() {
+            if self.has_room() {
                 return Take::Dial {
                     conn: self.dialled + 1,
                 };
@@ -124,12 +119,11 @@ impl PoolBook {
     }
 
     /// Whether there is room to dial.
-    fn has_place(&self) -> bool
-        ensures { result ≡ has_place self.now }
+    fn has_room(&self) -> bool
+        ensures { result ≡ has_room self.now }
     {
-        let total = self.pending.len() + self.lent.len() + self.available.len();
-        total < self.rules.max_size as usize
-            && self.pending.len() < self.rules.max_connecting as usize
+        let all = self.pending.len() + self.lent.len() + self.available.len();
+        self.rules.may_dial(all, self.pending.len())
     }
 
     /// Takes a ticket out of the line that gets nothing.
@@ -169,16 +163,5 @@ impl PoolBook {
             generation: self.generation,
         });
         self.dialled = conn;
-    }
-}
-
-/// Why a perished connection is shut.
-fn perish_reason(generation: u64, available: &Available) -> CloseReason
-    ensures { result ≡ (if not (available.now.generation == generation) then CloseReason.Stale else CloseReason.Idle) }
-{
-    if available.generation != generation {
-        CloseReason::Stale
-    } else {
-        CloseReason::Idle
     }
 }

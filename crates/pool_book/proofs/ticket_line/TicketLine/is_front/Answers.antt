@@ -5,5 +5,5 @@ use Rattle.pool_book.proofs.ticket_line.TicketLine.is_front.Goals as goal
 
 pub returns-clause-there : goal.returns-clause-there
 returns-clause-there c first =
-    let front = rw c.self.invariant at (sym c.is_front.ensures ∙ first) in
+    let front = rw c.self.invariant.same at (sym c.is_front.ensures ∙ first) in
     rw (← c.self.view_is) (is_first-length c.self.inside.tickets.items c.args.number front)

@@ -1,17 +1,12 @@
--- What the entries so far say of a pool, each word of the standard by itself.
+-- What is read off the entries so far, each word of the standard by itself, one entry after another.
 use Rattle.std.specs.Prelude.{ℕ, ◌+◌, not, ◌==◌, List, [], ◌∷◌, ◌++◌, filter, map, if◌then◌else◌}
-use Rattle.wait_line.specs.Line.{without_number}
+use Rattle.wait_line.specs.Queue.{without_number}
 use Rattle.pool_book.specs.declared.state.PoolState.{PoolState}
 use Rattle.pool_book.specs.declared.state.PoolState.TheVariants as state_of
 use Rattle.pool_book.specs.declared.connections.Held.{Held}
 use Rattle.pool_book.specs.declared.connections.Available.{Available}
 use Rattle.pool_book.specs.Pool.{is_closed}
 use Rattle.pool_book.specs.Entries.{PoolEntry, Ready, Clear, Shut, Entered, Left, Lent, Dialled, Settled, NotLent, CheckedIn, ConnShut}
-
--- What entries say, one after another (own: a fold).
-abbrev pub told : {X : Type 0} → (X → PoolEntry → X) → X → List PoolEntry → X
-told says x [] = x
-told says x (e ∷ es) = told says (says x e) es
 
 -- The generation is the number of clears (CMAP, Clearing a Connection Pool).
 abbrev pub generation_by : ℕ → PoolEntry → ℕ
@@ -71,17 +66,25 @@ pairs_of hs = map (λ h. record { ticket = h.ticket; conn = h.conn }) hs
 abbrev pub free_of : List Available → List ℕ
 free_of xs = map (λ a. a.conn) xs
 
--- A connection and the generation of its dial (CMAP, Connection, generation).
-pub record Born : Type 0 where
-  pub conn : ℕ
+-- A connection or a ticket, by its number, and the generation that the pool had as it began (CMAP, Connection,
+-- generation; WaitQueue).
+pub record Begun : Type 0 where
+  pub number : ℕ
   pub generation : ℕ
 
--- The generation so far, and the connections that were dialled, each of the generation of its dial (CMAP, Connection).
-pub record Dials : Type 0 where
+-- The generation so far, and what began, each with the generation in which it did (CMAP, Connection Pool, generation).
+pub record Beginnings : Type 0 where
   pub now : ℕ
-  pub born : List Born
+  pub begun : List Begun
 
-abbrev pub dials_by : Dials → PoolEntry → Dials
+-- A connection begins as it is dialled (CMAP, Connection, generation).
+abbrev pub dials_by : Beginnings → PoolEntry → Beginnings
 dials_by d Clear = record d { now = d.now + 1 }
-dials_by d (Dialled number conn) = record d { born = d.born ++ record { conn = conn; generation = d.now } ∷ [] }
+dials_by d (Dialled number conn) = record d { begun = d.begun ++ record { number = conn; generation = d.now } ∷ [] }
 dials_by d e = d
+
+-- A ticket begins as it enters (CMAP, WaitQueue).
+abbrev pub tickets_by : Beginnings → PoolEntry → Beginnings
+tickets_by d Clear = record d { now = d.now + 1 }
+tickets_by d (Entered number) = record d { begun = d.begun ++ record { number = number; generation = d.now } ∷ [] }
+tickets_by d e = d

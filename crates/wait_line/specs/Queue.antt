@@ -1,10 +1,10 @@
--- The line in which check-outs wait for a connection.
+-- The queue in which check-outs wait for a connection.
 use Rattle.std.specs.Prelude.{ℕ, ◌+◌, Bool, false, not, List, [], ◌∷◌, ◌++◌, ◌==◌, filter}
 use Rattle.std.specs.List.{list_any}
 
--- What a line shows: the numbers of the tickets that wait, in the order in which they entered, and how many tickets
+-- A wait queue: the numbers of the tickets that wait, in the order in which they entered, and how many tickets
 -- were given so far, which is the next ticket's number (CMAP, WaitQueue).
-pub record Line : Type 0 where
+pub record Queue : Type 0 where
   pub waiting : List ℕ
   pub given : ℕ
 
@@ -21,10 +21,10 @@ is_among ns number = list_any (λ n. n == number) ns
 abbrev pub without_number : ℕ → List ℕ → List ℕ
 without_number number ns = filter (λ n. not (n == number)) ns
 
--- The line behind a ticket that entered: the next number stands last (CMAP, WaitQueue).
-abbrev pub entered : Line → Line
-entered l = record { waiting = l.waiting ++ l.given ∷ []; given = l.given + 1 }
+-- The queue behind a ticket that joined it: the next number stands last (CMAP, WaitQueue).
+abbrev pub joined : Queue → Queue
+joined q = record { waiting = q.waiting ++ q.given ∷ []; given = q.given + 1 }
 
--- The line behind a ticket that left (CMAP, WaitQueue: who times out or gives up leaves).
-abbrev pub left : ℕ → Line → Line
-left number l = record l { waiting = without_number number l.waiting }
+-- The queue behind a ticket that left it (CMAP, WaitQueue: who times out or gives up leaves).
+abbrev pub left : ℕ → Queue → Queue
+left number q = record q { waiting = without_number number q.waiting }

@@ -5,7 +5,7 @@ use Rattle.std.specs.Option.{option_map}
 use Rattle.std.specs.List.{filter, find}
 use Rattle.std.proofs.lemmas.Bool.{eqb-true, eq-eqb}
 use Rattle.std.proofs.lemmas.List.{append-nil}
-use Rattle.wait_line.specs.Line.{without_number}
+use Rattle.wait_line.specs.Queue.{without_number}
 use Rattle.pool_book.specs.declared.rules.PoolRules.{PoolRules}
 use Rattle.pool_book.specs.declared.state.PoolState.{PoolState}
 use Rattle.pool_book.specs.declared.state.PoolState.TheVariants as state_of
@@ -16,60 +16,53 @@ use Rattle.pool_book.specs.declared.answers.CloseReason.{CloseReason}
 use Rattle.pool_book.specs.declared.answers.CloseReason.TheVariants.{PoolClosed}
 use Rattle.pool_book.specs.Pool.{Pool, fresh_pool, is_closed, is_paused, numbers_of, held_of, last_of, is_kept, shut_reason}
 use Rattle.pool_book.specs.Entries.{PoolEntry, Ready, Clear, Shut, Entered, Left, Lent, Dialled, Settled, NotLent, CheckedIn, ConnShut, Closed, Cleared, Late, Lost, MayStand, after, owes, owes_shut, cleared_state, ticket_for, lend, returned}
-use Rattle.pool_book.specs.Judge.{Timed, Legal, Stands, moved, state_after, IsTrail, place_behind, entries_of}
+use Rattle.entry_judge.specs.declared.timed.Timed.{Timed}
+use Rattle.entry_judge.specs.Judge.{Legal, state_after}
+use Rattle.entry_judge.specs.Groups.{Stands, ComesNext, Place, next_place, nothing_owed, entries_of}
+use Rattle.entry_judge.specs.GroupLaws.{IsTrail-front, IsTrail-rest}
+use Rattle.entry_judge.specs.InvariantLaws.{Keeps, Keeps-legal, KeepsOwed, KeepsOwed-legal, Reads, Reads-legal, Reads-trail}
+use Rattle.pool_book.specs.Judge.{pool_judge, IsTrail, place_behind, entries_and_owed}
 use Rattle.pool_book.specs.Sound.{Sound, times, times_held, times_available, times_waiting}
-use Rattle.pool_book.specs.Told.{told, generation_by, state_by, waiting_by, pending_by, available_by, lent_by, Pair, conns_of, pairs_of, free_of}
+use Rattle.pool_book.specs.Readings.{generation_by, state_by, waiting_by, pending_by, available_by, lent_by, Pair, conns_of, pairs_of, free_of}
 use Rattle.pool_book.proofs.ListLemmas.{find-passes, numbers_of-without_ticket}
 use Rattle.pool_book.proofs.TimesLemmas.{times-found, filter-times_none}
-use Rattle.pool_book.proofs.SoundLemmas.{Sound-after, Sound-fresh, last_of-Some}
+use Rattle.pool_book.proofs.SoundLemmas.{Sound-keeps, Sound-fresh, last_of-Some}
 
--- g tells of each entry, with what must follow it, what f shows of the pool behind it
-pub record Tells {X : Type 0} (f : Pool → X) (g : X → PoolEntry → X) : Type 0 where
-  pub each : (p : Pool) (moment : ℕ) (e : PoolEntry) → Sound p → MayStand p moment e →
-      told g (g (f p) e) (owes p e) ≡ f (after p moment e)
+-- what g reads off the entries is what f shows of the pool
+abbrev pub ReadsAs : {X : Type 0} → (Pool → X) → (X → PoolEntry → X) → Type 0
+ReadsAs f g = Reads pool_judge Sound (λ p x. x ≡ f p) g
 
-pub told-append : {X : Type 0} (g : X → PoolEntry → X) (x : X) (ds es : List PoolEntry) → told g x (ds ++ es) ≡ told g (told g x ds) es
-told-append g x [] es = refl
-told-append g x (d ∷ ds) es = told-append g (g x d) ds es
+reads_as : {X : Type 0} (f : Pool → X) (g : X → PoolEntry → X) →
+    ((p : Pool) (moment : ℕ) (e : PoolEntry) → Sound p → MayStand p moment e → state_after g (g (f p) e) (owes p e) ≡ f (after p moment e)) → ReadsAs f g
+reads_as f g each = record { keeps = Sound-keeps; each = λ p moment e x s r m. rw r (each p moment e s m) }
 
--- and so along a trail
-pub told-legal : {X : Type 0} (f : Pool → X) (g : X → PoolEntry → X) → Tells f g →
-    (p : Pool) (owed : List PoolEntry) (ts : List Timed) (x : X) → Sound p → told g x owed ≡ f p →
-    Legal Stands moved (record { pool = p; owed = owed }) ts →
-    told g (told g x (entries_of ts)) (state_after moved (record { pool = p; owed = owed }) ts).owed
-    ≡ f (state_after moved (record { pool = p; owed = owed }) ts).pool
-told-legal f g h p owed [] x s e l = e
-told-legal f g h p [] (t ∷ ts) x s e l =
-    told-legal f g h (after p t.at t.what) (owes p t.what) ts (g x t.what) (Sound-after p t.at t.what s l.0) (rw e (h.each p t.at t.what s l.0)) l.1
-told-legal f g h p (d ∷ ds) (t ∷ ts) x s e l =
-    told-legal f g h p ds ts (g x t.what) s (rw l.0 e) l.1
+pub ReadsAs-legal : {X : Type 0} (f : Pool → X) (g : X → PoolEntry → X) → ReadsAs f g → (rules : PoolRules) (ts : List (Timed PoolEntry)) → IsTrail rules ts →
+    state_after g (state_after g (f (fresh_pool rules)) (entries_of ts)) (place_behind rules ts).owed ≡ f (place_behind rules ts).state
+ReadsAs-legal f g h rules ts l = Reads-legal pool_judge Sound (λ p x. x ≡ f p) g h (fresh_pool rules) [] ts (f (fresh_pool rules)) (Sound-fresh rules) refl l
 
--- from the beginning on
-pub told-trail : {X : Type 0} (f : Pool → X) (g : X → PoolEntry → X) → Tells f g → (rules : PoolRules) (ts : List Timed) → IsTrail rules ts →
-    told g (f (fresh_pool rules)) (entries_of ts ++ (place_behind rules ts).owed) ≡ f (place_behind rules ts).pool
-told-trail f g h rules ts l =
-    told-append g (f (fresh_pool rules)) (entries_of ts) (place_behind rules ts).owed
-    ∙ told-legal f g h (fresh_pool rules) [] ts (f (fresh_pool rules)) (Sound-fresh rules) refl l
+pub ReadsAs-trail : {X : Type 0} (f : Pool → X) (g : X → PoolEntry → X) → ReadsAs f g → (rules : PoolRules) (ts : List (Timed PoolEntry)) → IsTrail rules ts →
+    state_after g (f (fresh_pool rules)) (entries_and_owed rules ts) ≡ f (place_behind rules ts).state
+ReadsAs-trail f g h rules ts l = Reads-trail pool_judge Sound (λ p x. x ≡ f p) g h (fresh_pool rules) ts (f (fresh_pool rules)) (Sound-fresh rules) refl l
 
 -- what does not speak of connections that are shut says nothing of those that must be
-pub told-shuts : {X : Type 0} (g : X → PoolEntry → X) (x : X) (xs : List Available) → ((y : X) (c : ℕ) (r : CloseReason) → g y (ConnShut c r) ≡ y) →
-    told g x (map (λ a. ConnShut a.conn PoolClosed) xs) ≡ x
-told-shuts g x [] h = refl
-told-shuts g x (a ∷ xs) h =
-    ap (λ y. told g y (map (λ a. ConnShut a.conn PoolClosed) xs)) (h x a.conn PoolClosed) ∙ told-shuts g x xs h
+pub read-shuts : {X : Type 0} (g : X → PoolEntry → X) (x : X) (xs : List Available) → ((y : X) (c : ℕ) (r : CloseReason) → g y (ConnShut c r) ≡ y) →
+    state_after g x (map (λ a. ConnShut a.conn PoolClosed) xs) ≡ x
+read-shuts g x [] h = refl
+read-shuts g x (a ∷ xs) h =
+    ap (λ y. state_after g y (map (λ a. ConnShut a.conn PoolClosed) xs)) (h x a.conn PoolClosed) ∙ read-shuts g x xs h
 
-pub told-owes_shut : {X : Type 0} (g : X → PoolEntry → X) (x : X) (p : Pool) (errored : Bool) (o : Option Held) → ((y : X) (c : ℕ) (r : CloseReason) → g y (ConnShut c r) ≡ y) →
-    told g x (owes_shut p errored o) ≡ x
-told-owes_shut g x p errored None h = refl
-told-owes_shut g x p errored (Some k) h =
-    elim (is_kept p errored k) as (λ b. told g x (cond b [] (ConnShut k.conn (shut_reason p errored) ∷ [])) ≡ x) [ true ↦ refl | false ↦ h x k.conn (shut_reason p errored) ]
+pub read-owes_shut : {X : Type 0} (g : X → PoolEntry → X) (x : X) (p : Pool) (errored : Bool) (o : Option Held) → ((y : X) (c : ℕ) (r : CloseReason) → g y (ConnShut c r) ≡ y) →
+    state_after g x (owes_shut p errored o) ≡ x
+read-owes_shut g x p errored None h = refl
+read-owes_shut g x p errored (Some k) h =
+    elim (is_kept p errored k) as (λ b. state_after g x (cond b [] (ConnShut k.conn (shut_reason p.state errored) ∷ [])) ≡ x) [ true ↦ refl | false ↦ h x k.conn (shut_reason p.state errored) ]
 
-pub Tells-generation_by : Tells (λ p. p.generation) generation_by
-Tells-generation_by = record { each = each } where
-  each : (p : Pool) (moment : ℕ) (e : PoolEntry) → Sound p → MayStand p moment e → told generation_by (generation_by p.generation e) (owes p e) ≡ (after p moment e).generation
+pub ReadsAs-generation_by : ReadsAs (λ p. p.generation) generation_by
+ReadsAs-generation_by = reads_as _ _ each where
+  each : (p : Pool) (moment : ℕ) (e : PoolEntry) → Sound p → MayStand p moment e → state_after generation_by (generation_by p.generation e) (owes p e) ≡ (after p moment e).generation
   each p moment Ready s m = refl
   each p moment Clear s m = refl
-  each p moment Shut s m = told-shuts generation_by p.generation p.available (λ y c r. refl)
+  each p moment Shut s m = read-shuts generation_by p.generation p.available (λ y c r. refl)
   each p moment (Entered number) s m = refl
   each p moment (Left number) s m = refl
   each p moment (Lent number conn) s m = refl
@@ -80,7 +73,7 @@ Tells-generation_by = record { each = each } where
   each p moment (NotLent number (Cleared g)) s m = refl
   each p moment (NotLent number Late) s m = refl
   each p moment (NotLent number (Lost conn)) s m = refl
-  each p moment (CheckedIn number conn errored) s m = told-owes_shut generation_by p.generation p errored (held_of conn p.lent) (λ y c r. refl)
+  each p moment (CheckedIn number conn errored) s m = read-owes_shut generation_by p.generation p errored (held_of conn p.lent) (λ y c r. refl)
   each p moment (ConnShut conn reason) s m = refl
 
 -- the state
@@ -94,12 +87,12 @@ state_by-Clear state_of.Paused = refl
 state_by-Clear state_of.Ready = refl
 state_by-Clear state_of.Closed = refl
 
-pub Tells-state_by : Tells (λ p. p.state) state_by
-Tells-state_by = record { each = each } where
-  each : (p : Pool) (moment : ℕ) (e : PoolEntry) → Sound p → MayStand p moment e → told state_by (state_by p.state e) (owes p e) ≡ (after p moment e).state
+pub ReadsAs-state_by : ReadsAs (λ p. p.state) state_by
+ReadsAs-state_by = reads_as _ _ each where
+  each : (p : Pool) (moment : ℕ) (e : PoolEntry) → Sound p → MayStand p moment e → state_after state_by (state_by p.state e) (owes p e) ≡ (after p moment e).state
   each p moment Ready s m = state_by-Ready p.state m
   each p moment Clear s m = state_by-Clear p.state
-  each p moment Shut s m = told-shuts state_by state_of.Closed p.available (λ y c r. refl)
+  each p moment Shut s m = read-shuts state_by state_of.Closed p.available (λ y c r. refl)
   each p moment (Entered number) s m = refl
   each p moment (Left number) s m = refl
   each p moment (Lent number conn) s m = refl
@@ -110,7 +103,7 @@ Tells-state_by = record { each = each } where
   each p moment (NotLent number (Cleared g)) s m = refl
   each p moment (NotLent number Late) s m = refl
   each p moment (NotLent number (Lost conn)) s m = refl
-  each p moment (CheckedIn number conn errored) s m = told-owes_shut state_by p.state p errored (held_of conn p.lent) (λ y c r. refl)
+  each p moment (CheckedIn number conn errored) s m = read-owes_shut state_by p.state p errored (held_of conn p.lent) (λ y c r. refl)
   each p moment (ConnShut conn reason) s m = refl
 
 -- lists of numbers behind a change of what they are the numbers of
@@ -146,12 +139,12 @@ not_waiting p number conn h s e n =
     let dials = times-found_by (λ (x : Held). eqb x.conn conn) (λ (x : Held). eqb x.ticket number) p.pending h e (eq-eqb _ _ (sym n)) in
     omega (arith, s.one_place number)
 
-pub Tells-waiting_by : Tells (λ p. numbers_of p.waiting) waiting_by
-Tells-waiting_by = record { each = each } where
-  each : (p : Pool) (moment : ℕ) (e : PoolEntry) → Sound p → MayStand p moment e → told waiting_by (waiting_by (numbers_of p.waiting) e) (owes p e) ≡ numbers_of (after p moment e).waiting
+pub ReadsAs-waiting_by : ReadsAs (λ p. numbers_of p.waiting) waiting_by
+ReadsAs-waiting_by = reads_as _ _ each where
+  each : (p : Pool) (moment : ℕ) (e : PoolEntry) → Sound p → MayStand p moment e → state_after waiting_by (waiting_by (numbers_of p.waiting) e) (owes p e) ≡ numbers_of (after p moment e).waiting
   each p moment Ready s m = refl
   each p moment Clear s m = refl
-  each p moment Shut s m = told-shuts waiting_by (numbers_of p.waiting) p.available (λ y c r. refl)
+  each p moment Shut s m = read-shuts waiting_by (numbers_of p.waiting) p.available (λ y c r. refl)
   each p moment (Entered number) s m = rw m (sym (map-push (λ (t : Ticket). t.number) p.waiting (ticket_for p moment)))
   each p moment (Left number) s m = sym (numbers_of-without_ticket number p.waiting)
   each p moment (Lent number conn) s m = sym (numbers_of-without_ticket number p.waiting)
@@ -162,15 +155,15 @@ Tells-waiting_by = record { each = each } where
   each p moment (NotLent number (Cleared g)) s m = sym (numbers_of-without_ticket number p.waiting)
   each p moment (NotLent number Late) s m = sym (numbers_of-without_ticket number p.waiting)
   each p moment (NotLent number (Lost conn)) s m = without-absent (λ (t : Ticket). t.number) number p.waiting (not_waiting p number conn m.0 s m.1 m.2)
-  each p moment (CheckedIn number conn errored) s m = told-owes_shut waiting_by (numbers_of p.waiting) p errored (held_of conn p.lent) (λ y c r. refl)
+  each p moment (CheckedIn number conn errored) s m = read-owes_shut waiting_by (numbers_of p.waiting) p errored (held_of conn p.lent) (λ y c r. refl)
   each p moment (ConnShut conn reason) s m = refl
 
 -- a connection that is checked in and not kept must be shut
-told-owes_shut_of : {X : Type 0} (g : X → PoolEntry → X) (x y : X) (p : Pool) (errored : Bool) (o : Option Held) (h : Held) → o ≡ Some h →
-    (is_kept p errored h ≡ true → x ≡ y) → (is_kept p errored h ≡ false → g x (ConnShut h.conn (shut_reason p errored)) ≡ y) →
-    told g x (owes_shut p errored o) ≡ y
-told-owes_shut_of g x y p errored o h e kept shut =
-    rw e (elim (is_kept p errored h) as (λ b. is_kept p errored h ≡ b → told g x (cond b [] (ConnShut h.conn (shut_reason p errored) ∷ [])) ≡ y) [ true ↦ kept | false ↦ shut ] refl)
+read-owes_shut_of : {X : Type 0} (g : X → PoolEntry → X) (x y : X) (p : Pool) (errored : Bool) (o : Option Held) (h : Held) → o ≡ Some h →
+    (is_kept p errored h ≡ true → x ≡ y) → (is_kept p errored h ≡ false → g x (ConnShut h.conn (shut_reason p.state errored)) ≡ y) →
+    state_after g x (owes_shut p errored o) ≡ y
+read-owes_shut_of g x y p errored o h e kept shut =
+    rw e (elim (is_kept p errored h) as (λ b. is_kept p errored h ≡ b → state_after g x (cond b [] (ConnShut h.conn (shut_reason p.state errored) ∷ [])) ≡ y) [ true ↦ kept | false ↦ shut ] refl)
 
 -- the number of a connection that is found
 conn-found : (conn : ℕ) (hs : List Held) (h : Held) → held_of conn hs ≡ Some h → h.conn ≡ conn
@@ -191,13 +184,13 @@ without-twice k (n ∷ ns) =
     ] refl
 
 -- what must be shut as the pool is closed is not among others
-told-shuts_pends : (xs : List Available) (hs : List Held) → ((k : ℕ) → 1 ≤ times_available k xs → times_held k hs ≡ 0) →
-    told pending_by (conns_of hs) (map (λ a. ConnShut a.conn PoolClosed) xs) ≡ conns_of hs
-told-shuts_pends [] hs h = refl
-told-shuts_pends (a ∷ xs) hs h =
+read-shuts_pends : (xs : List Available) (hs : List Held) → ((k : ℕ) → 1 ≤ times_available k xs → times_held k hs ≡ 0) →
+    state_after pending_by (conns_of hs) (map (λ a. ConnShut a.conn PoolClosed) xs) ≡ conns_of hs
+read-shuts_pends [] hs h = refl
+read-shuts_pends (a ∷ xs) hs h =
     let here : 1 ≤ times_available a.conn (a ∷ xs) = times-at (λ (x : Available). eqb x.conn a.conn) (a ∷ xs) 0 a refl (eq-eqb _ _ refl) in
-    ap (λ ns. told pending_by ns (map (λ b. ConnShut b.conn PoolClosed) xs)) (without-absent (λ (x : Held). x.conn) a.conn hs (h a.conn here))
-    ∙ told-shuts_pends xs hs (λ k l. h k (omega arith))
+    ap (λ ns. state_after pending_by ns (map (λ b. ConnShut b.conn PoolClosed) xs)) (without-absent (λ (x : Held). x.conn) a.conn hs (h a.conn here))
+    ∙ read-shuts_pends xs hs (λ k l. h k (omega arith))
 
 -- a pending connection is neither lent nor available, and so on
 only_pending : (p : Pool) (conn : ℕ) (h : Held) → Sound p → held_of conn p.pending ≡ Some h → times_available conn p.available ≡ 0
@@ -213,12 +206,12 @@ only_available : (p : Pool) (conn k : ℕ) (a : Available) → Sound p → slice
 only_available p conn k a s e n =
     let there = times-at (λ (x : Available). eqb x.conn conn) p.available k a e (eq-eqb _ _ (sym n)) in omega (arith, s.once conn)
 
-pub Tells-pending_by : Tells (λ p. conns_of p.pending) pending_by
-Tells-pending_by = record { each = each } where
-  each : (p : Pool) (moment : ℕ) (e : PoolEntry) → Sound p → MayStand p moment e → told pending_by (pending_by (conns_of p.pending) e) (owes p e) ≡ conns_of (after p moment e).pending
+pub ReadsAs-pending_by : ReadsAs (λ p. conns_of p.pending) pending_by
+ReadsAs-pending_by = reads_as _ _ each where
+  each : (p : Pool) (moment : ℕ) (e : PoolEntry) → Sound p → MayStand p moment e → state_after pending_by (pending_by (conns_of p.pending) e) (owes p e) ≡ conns_of (after p moment e).pending
   each p moment Ready s m = refl
   each p moment Clear s m = refl
-  each p moment Shut s m = told-shuts_pends p.available p.pending (λ k l. omega (arith, s.once k))
+  each p moment Shut s m = read-shuts_pends p.available p.pending (λ k l. omega (arith, s.once k))
   each p moment (Entered number) s m = refl
   each p moment (Left number) s m = refl
   each p moment (Lent number conn) s m = refl
@@ -230,7 +223,7 @@ Tells-pending_by = record { each = each } where
   each p moment (NotLent number Late) s m = refl
   each p moment (NotLent number (Lost conn)) s m = sym (map-without (λ (h : Held). h.conn) conn p.pending)
   each p moment (CheckedIn number conn errored) s m =
-      told-owes_shut_of pending_by (conns_of p.pending) (conns_of p.pending) p errored (held_of conn p.lent) m.0 m.1 (λ _. refl)
+      read-owes_shut_of pending_by (conns_of p.pending) (conns_of p.pending) p errored (held_of conn p.lent) m.0 m.1 (λ _. refl)
       (λ _. without-absent (λ (h : Held). h.conn) m.0.conn p.pending (rw (conn-found conn p.lent m.0 m.1) (only_lent p conn m.0 s m.1).0))
   each p moment (ConnShut conn reason) s m = without-absent (λ (h : Held). h.conn) conn p.pending (only_available p conn m.1 m.0 s m.2 m.4)
 
@@ -262,12 +255,12 @@ pairs-settled : (number conn : ℕ) (ps hs : List Held) (h : Held) → held_of c
 pairs-settled number conn ps hs h e n =
     rw (e, n, ← conn-found conn ps h e) (sym (map-push (λ (x : Held). record { ticket = x.ticket; conn = x.conn }) hs h))
 
-pub Tells-lent_by : Tells (λ p. pairs_of p.lent) lent_by
-Tells-lent_by = record { each = each } where
-  each : (p : Pool) (moment : ℕ) (e : PoolEntry) → Sound p → MayStand p moment e → told lent_by (lent_by (pairs_of p.lent) e) (owes p e) ≡ pairs_of (after p moment e).lent
+pub ReadsAs-lent_by : ReadsAs (λ p. pairs_of p.lent) lent_by
+ReadsAs-lent_by = reads_as _ _ each where
+  each : (p : Pool) (moment : ℕ) (e : PoolEntry) → Sound p → MayStand p moment e → state_after lent_by (lent_by (pairs_of p.lent) e) (owes p e) ≡ pairs_of (after p moment e).lent
   each p moment Ready s m = refl
   each p moment Clear s m = refl
-  each p moment Shut s m = told-shuts lent_by (pairs_of p.lent) p.available (λ y c r. refl)
+  each p moment Shut s m = read-shuts lent_by (pairs_of p.lent) p.available (λ y c r. refl)
   each p moment (Entered number) s m = refl
   each p moment (Left number) s m = refl
   each p moment (Lent number conn) s m = pairs-lent number conn p.available p.lent m.3
@@ -279,7 +272,7 @@ Tells-lent_by = record { each = each } where
   each p moment (NotLent number Late) s m = refl
   each p moment (NotLent number (Lost conn)) s m = refl
   each p moment (CheckedIn number conn errored) s m =
-      told-owes_shut lent_by _ p errored (held_of conn p.lent) (λ y c r. refl) ∙ sym (map-filter (λ (h : Held). record { ticket = h.ticket; conn = h.conn }) (λ (q : Pair). not (eqb q.conn conn)) p.lent)
+      read-owes_shut lent_by _ p errored (held_of conn p.lent) (λ y c r. refl) ∙ sym (map-filter (λ (h : Held). record { ticket = h.ticket; conn = h.conn }) (λ (q : Pair). not (eqb q.conn conn)) p.lent)
   each p moment (ConnShut conn reason) s m = refl
 
 -- the last one taken out by its number, where it stands once
@@ -304,16 +297,16 @@ filter-last (y ∷ ys) a conn e c m =
     rw same (filter-last_at (length ys) (y ∷ ys) a conn refl (rw same at e) c m)
 
 -- each available connection is shut as the pool is closed
-told-shuts_frees : (xs : List Available) → ((k : ℕ) → times_available k xs ≤ 1) →
-    told available_by (free_of xs) (map (λ a. ConnShut a.conn PoolClosed) xs) ≡ []
-told-shuts_frees [] h = refl
-told-shuts_frees (a ∷ xs) h =
+read-shuts_frees : (xs : List Available) → ((k : ℕ) → times_available k xs ≤ 1) →
+    state_after available_by (free_of xs) (map (λ a. ConnShut a.conn PoolClosed) xs) ≡ []
+read-shuts_frees [] h = refl
+read-shuts_frees (a ∷ xs) h =
     let same = eq-eqb a.conn a.conn refl in
     let here : cond (eqb a.conn a.conn) 1 0 + times_available a.conn xs ≤ 1 = h a.conn in
     let one : 1 + times_available a.conn xs ≤ 1 = rw same at here in
     let shut : without_number a.conn (free_of (a ∷ xs)) ≡ free_of xs = rw same (without-absent (λ (x : Available). x.conn) a.conn xs (omega (arith, one))) in
-    ap (λ ns. told available_by ns (map (λ b. ConnShut b.conn PoolClosed) xs)) shut
-    ∙ told-shuts_frees xs (λ k. let most : cond (eqb a.conn k) 1 0 + times_available k xs ≤ 1 = h k in omega (arith, most))
+    ap (λ ns. state_after available_by ns (map (λ b. ConnShut b.conn PoolClosed) xs)) shut
+    ∙ read-shuts_frees xs (λ k. let most : cond (eqb a.conn k) 1 0 + times_available k xs ≤ 1 = h k in omega (arith, most))
 
 without-pushed : (k : ℕ) (ns : List ℕ) → without_number k (ns ++ k ∷ []) ≡ without_number k ns
 without-pushed k [] = rw (eq-eqb k k refl) refl
@@ -325,21 +318,21 @@ without-pushed k (n ∷ ns) =
 
 -- a connection that comes back is available where it is kept
 available_by-checked_in : (p : Pool) (moment conn : ℕ) (errored : Bool) (h : Held) → held_of conn p.lent ≡ Some h → times_available conn p.available ≡ 0 →
-    told available_by (free_of p.available ++ conn ∷ []) (owes_shut p errored (held_of conn p.lent)) ≡ free_of (p.available ++ returned p moment errored (held_of conn p.lent))
+    state_after available_by (free_of p.available ++ conn ∷ []) (owes_shut p errored (held_of conn p.lent)) ≡ free_of (p.available ++ returned p moment errored (held_of conn p.lent))
 available_by-checked_in p moment conn errored h e none =
     let number = conn-found conn p.lent h e in
     let back : Available = record { conn = h.conn; generation = h.generation; since = moment } in
-    rw e (elim (is_kept p errored h) as (λ b. told available_by (free_of p.available ++ conn ∷ []) (cond b [] (ConnShut h.conn (shut_reason p errored) ∷ [])) ≡ free_of (p.available ++ cond b (back ∷ []) [])) [
+    rw e (elim (is_kept p errored h) as (λ b. state_after available_by (free_of p.available ++ conn ∷ []) (cond b [] (ConnShut h.conn (shut_reason p.state errored) ∷ [])) ≡ free_of (p.available ++ cond b (back ∷ []) [])) [
       | true ↦ rw (← number) (sym (map-push (λ (a : Available). a.conn) p.available back))
       | false ↦ rw (number, append-nil) (without-pushed conn (free_of p.available) ∙ without-absent (λ (a : Available). a.conn) conn p.available none)
     ])
 
-pub Tells-available_by : Tells (λ p. free_of p.available) available_by
-Tells-available_by = record { each = each } where
-  each : (p : Pool) (moment : ℕ) (e : PoolEntry) → Sound p → MayStand p moment e → told available_by (available_by (free_of p.available) e) (owes p e) ≡ free_of (after p moment e).available
+pub ReadsAs-available_by : ReadsAs (λ p. free_of p.available) available_by
+ReadsAs-available_by = reads_as _ _ each where
+  each : (p : Pool) (moment : ℕ) (e : PoolEntry) → Sound p → MayStand p moment e → state_after available_by (available_by (free_of p.available) e) (owes p e) ≡ free_of (after p moment e).available
   each p moment Ready s m = refl
   each p moment Clear s m = refl
-  each p moment Shut s m = told-shuts_frees p.available (λ k. omega (arith, s.once k))
+  each p moment Shut s m = read-shuts_frees p.available (λ k. omega (arith, s.once k))
   each p moment (Entered number) s m = refl
   each p moment (Left number) s m = refl
   each p moment (Lent number conn) s m =

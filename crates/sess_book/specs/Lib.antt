@@ -1,0 +1,5 @@
+pub mod Ids
+pub mod Sessions
+pub mod Entries
+pub mod Inside
+pub mod Answers

@@ -1,11 +1,12 @@
 -- What a lease answers (Driver Sessions, Algorithm to acquire a ServerSession instance).
-use Rattle.std.specs.Prelude.{◌≡◌, ℕ, ℤ, Bool, true, false, List, [], Option, None, Some, All}
+use Rattle.std.specs.Prelude.{◌≡◌, ℕ, ℤ, Bool, true, false, Some, All, slice_get}
 use Rattle.bson_doc.specs.declared.ids.Lsid.{Lsid}
 use Rattle.entry_judge.specs.Groups.{Goes}
 use Rattle.sess_book.specs.declared.lease.Lease.{Lease}
 use Rattle.sess_book.specs.declared.lease.Leased.{Leased}
 use Rattle.sess_book.specs.declared.lease.Leased.TheVariants as leased
 use Rattle.sess_book.specs.declared.session.Session.{Session}
+use Rattle.sess_book.specs.declared.session.Holding.{Holding}
 use Rattle.sess_book.specs.declared.session.Kept.{Kept}
 use Rattle.sess_book.specs.Entries.{Made, Reused, sessions_judge}
 use Rattle.sess_book.specs.Ids.{id_of}
@@ -16,6 +17,13 @@ pub record IsOf (l : Lease) (s : Sessions) : Type 0 where
   pub session : Session
   pub there : slice_get s.made l.place ≡ Some session
   pub same : l.lsid ≡ session.lsid
+
+-- A lease is of a session that is held so.
+pub record IsHeld (s : Sessions) (l : Lease) (holding : Holding) : Type 0 where
+  pub session : Session
+  pub there : slice_get s.made l.place ≡ Some session
+  pub same : l.lsid ≡ session.lsid
+  pub held : session.holding ≡ holding
 
 -- A lease leads on by the entry that makes a session with the id of the words, or that leases the newest kept one again.
 abbrev pub LeasesBy : Sessions → ℕ → ℤ → Lsid → Lease → Bool → Sessions → Type 0

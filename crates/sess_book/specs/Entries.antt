@@ -1,6 +1,5 @@
 -- What happens to sessions: when each entry may stand, and what the sessions are behind it (Driver Sessions).
-use Rattle.std.specs.Prelude.{◌≡◌, ◌≤◌, ℕ, ◌-◌, ℤ, pos, Bool, true, false, List, [], ◌∷◌, ◌++◌, Option, None, Some, All, length, take, slice_get, slice_set, if◌then◌else◌}
-use Rattle.std.specs.Int.{◌+ℤ◌}
+use Rattle.std.specs.Prelude.{◌≡◌, ◌≢◌, ◌≤◌, ℕ, ◌-◌, ℤ, ◌+ℤ◌, pos, Bool, true, false, List, [], ◌∷◌, ◌++◌, Option, None, Some, All, length, take, slice_get, slice_set, if◌then◌else◌}
 use Rattle.bson_doc.specs.declared.ids.Lsid.{Lsid}
 use Rattle.entry_judge.specs.Groups.{Judge}
 use Rattle.sess_book.specs.declared.session.Session.{Session}
@@ -31,13 +30,13 @@ MayStand s moment (Drew place number) =
 MayStand s moment (Returned place dirty kept) =
     (s.last ≤ moment) × ((x : Session) × (slice_get s.made place ≡ Some x) × (x.holding ≢ holding.Nobody) × (kept ≡ is_kept dirty x.number))
 
--- The sessions with another one at a place.
-abbrev pub with_session : List Session → ℕ → (Session → Session) → List Session
-with_session made place f = set_at made place (slice_get made place) f
-
+-- The sessions with another one at a place, made of the one that stands there.
 abbrev pub set_at : List Session → ℕ → Option Session → (Session → Session) → List Session
 set_at made place None f = made
 set_at made place (Some x) f = slice_set made place (f x)
+
+abbrev pub with_session : List Session → ℕ → (Session → Session) → List Session
+with_session made place f = set_at made place (slice_get made place) f
 
 -- The sessions behind an entry. A lease drops the kept sessions that have less than a minute left, which are all of them where
 -- none is leased again.

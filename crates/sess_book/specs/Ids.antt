@@ -5,8 +5,8 @@ use Rattle.std.specs.Ordering.{nat_cmp, is_eq}
 use Rattle.std.specs.declared.cmp.Ordering.{Ordering}
 use Rattle.std.specs.Cmp.Lexicographic.{slice_cmp}
 use Rattle.uuid.specs.Parts.{with_variant, with_version}
-use Rattle.uuid.specs.declared.variant.Variant.TheVariants.{RFC4122}
-use Rattle.uuid.specs.declared.version.Version.TheVariants.{Random}
+use Rattle.uuid.specs.declared.Variant.TheVariants.{RFC4122}
+use Rattle.uuid.specs.declared.Version.TheVariants.{Random}
 use Rattle.bson_doc.specs.declared.ids.Lsid.{Lsid}
 
 -- A version 4 UUID of two random words: the first is its first eight bytes, the highest first, the second its last eight; then

@@ -1,11 +1,13 @@
-ghost use Rattle.std.specs.Prelude.{◌≡◌, ◌≢◌, ◌≤◌, ◌<◌, IfOk, IsOk, OnErr, OnOk, Some, slice_get, length};
+ghost use Rattle.std.specs.Prelude.{◌≡◌, ◌≢◌, ◌≤◌, true, false, IfOk, OnErr, Some};
 ghost use Rattle.entry_judge.specs.Groups.{Goes};
-ghost use Rattle.sess_book.specs.Answers.{Answers, IsOf};
-ghost use Rattle.sess_book.specs.Entries.{Drew, Returned, sessions_judge};
+ghost use Rattle.sess_book.specs.Answers.{Answers, IsOf, IsHeld};
+ghost use Rattle.sess_book.specs.Entries.{Drew, Made, Reused, Returned, sessions_judge};
 ghost use Rattle.sess_book.specs.Ids.{id_of};
-ghost use Rattle.sess_book.specs.Sessions.{has_minute_left, is_kept as is_kept_by, no_sessions};
+ghost use Rattle.sess_book.specs.Sessions.{has_minute_left, newest, no_sessions};
 
 use crate::ids::fresh_id;
+use crate::made::{draw_at, hold_at};
+use crate::rules::{has_minute_left as is_minute_left, is_kept};
 use crate::{Holding, Kept, Lease, Leased, Memory, Pair, Session};
 use bson_doc::Lsid;
 use std::alloc::Global;
@@ -55,10 +57,10 @@ impl SessBook {
 
     /// Leases a session at a moment, in microseconds, that is not before [`SessBook::last`]. Servers end a session after
     /// `minutes` without use. The newest kept session is leased again where it has a minute left; else one is made, with the
-    /// id of the two words, and kept ones that have less are dropped. `Repeated` changes nothing.
+    /// id of the two words, and kept ones are dropped, since they have less. Where that id was used before the answer is
+    /// `Repeated`, and nothing changes. It makes the room that [`SessBook::give_back`] needs.
     pub fn take(
         &mut self,
-        alloc: Global,
         moment: u64,
         minutes: i64,
         w1: u64,
@@ -68,37 +70,95 @@ impl SessBook {
         ensures answer { IfOk result (λ leased. Answers self.old moment minutes (id_of w1 w2) leased self.new) }
         ensures err { OnErr result (self.new ≡ self.old) }
     {
-        let _ = alloc;
-        match self.newest() {
-            Some(kept) if has_minute_left(minutes, moment, kept) => {
-                Ok(Leased::Lease(self.lease_again(moment, kept.place)))
+        match self.kept.last().copied() {
+            Some(kept) if is_minute_left(minutes, moment, kept) => {
+                Ok(Leased::Lease(self.lease_again(moment, minutes)))
             }
-            _ => self.lease_new(moment, fresh_id(w1, w2)),
+            _ => self.lease_new(moment, minutes, fresh_id(w1, w2)),
         }
     }
 
-    /// Draws the lease's transaction number: one more than the session's last. The lease is one of this book's, and has not
-    /// drawn.
+    /// Leases the newest kept session again, which has a minute left.
+    fn lease_again(&mut self, moment: u64, minutes: i64) -> Lease
+        requires late { self.old.last ≤ moment }
+        requires left { (k : Kept) × (newest self.old ≡ Some k) × (has_minute_left minutes moment k ≡ true) }
+        ensures goes { Goes sessions_judge self.old moment (Reused result.place minutes) self.new }
+        ensures one { IsOf result self.new }
+        ensures fresh { result.fresh ≡ false }
+    {
+        let Some(kept) = self.kept.pop() else {
+            unreachable!()
+        };
+        let lsid = hold_at(&mut self.made, kept.place, Holding::Leased);
+        self.last = moment;
+        Lease {
+            place: kept.place,
+            lsid,
+            fresh: false,
+        }
+    }
+
+    /// Makes a session with an id, unless one had it before. No kept session has a minute left.
+    fn lease_new(&mut self, moment: u64, minutes: i64, lsid: Lsid) -> Result<Leased, Memory>
+        requires late { self.old.last ≤ moment }
+        requires left { (k : Kept) → newest self.old ≡ Some k → has_minute_left minutes moment k ≡ false }
+        ensures answer { IfOk result (λ leased. Answers self.old moment minutes lsid leased self.new) }
+        ensures err { OnErr result (self.new ≡ self.old) }
+    {
+        if self.used.contains(&lsid) {
+            return Ok(Leased::Repeated(lsid));
+        }
+        self.kept.reserve(self.made.len() + 1)?;
+        self.made.reserve(1)?;
+        self.used.insert(lsid)?;
+        let place = self.made.len();
+        self.made.push_reserved(Session {
+            lsid,
+            number: 0,
+            holding: Holding::Leased,
+        });
+        self.kept.clear();
+        self.last = moment;
+        Ok(Leased::Lease(Lease {
+            place,
+            lsid,
+            fresh: true,
+        }))
+    }
+
+    /// Draws the lease's transaction number: one more than its session's last. The lease is one of this book's, is not given
+    /// back, and has not drawn.
     pub fn draw(&mut self, lease: &mut Lease) -> Pair
-        requires { (x : Session) × (slice_get self.old.made lease.old.place ≡ Some x) × (x.holding ≡ Holding.Leased) × (x.lsid ≡ lease.old.lsid) }
+        requires { IsHeld self.old lease.old Holding.Leased }
         ensures goes { Goes sessions_judge self.old self.old.last (Drew lease.old.place result.number) self.new }
         ensures id { result.lsid ≡ lease.old.lsid }
         ensures lease { lease.new ≡ lease.old }
     {
-        let session = &mut self.made[lease.place];
-        session.number += 1;
-        session.holding = Holding::Drawn;
+        let number = draw_at(&mut self.made, lease.place);
         Pair {
             lsid: lease.lsid,
-            number: session.number,
+            number,
         }
     }
-}
 
-/// Whether a kept session has a minute left.
-fn has_minute_left(minutes: i64, moment: u64, kept: Kept) -> bool
-    ensures { result ≡ has_minute_left minutes moment kept }
-{
-    let micros = u128::from(minutes.max(0) as u64) * 60_000_000;
-    u128::from(moment) + 60_000_000 <= u128::from(kept.last_use) + micros
+    /// Takes a session back at a moment that is not before [`SessBook::last`], and answers whether it is kept: a dirty one is
+    /// not (Driver Sessions, Dirty sessions), and one that has no number left is not (own). It takes no memory. The lease is
+    /// one of this book's, and is not given back.
+    pub fn give_back(&mut self, lease: Lease, moment: u64, dirty: bool) -> bool
+        requires late { self.old.last ≤ moment }
+        requires held { (holding : Holding) × (holding ≢ Holding.Nobody) × IsHeld self.old lease holding }
+        ensures { Goes sessions_judge self.old moment (Returned lease.place dirty result) self.new }
+    {
+        let place = lease.place;
+        let kept = is_kept(dirty, self.made[place].number);
+        hold_at(&mut self.made, place, Holding::Nobody);
+        if kept {
+            self.kept.push_reserved(Kept {
+                place,
+                last_use: moment,
+            });
+        }
+        self.last = moment;
+        kept
+    }
 }

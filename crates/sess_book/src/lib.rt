@@ -13,6 +13,8 @@ mod book;
 mod ids;
 pub mod laws;
 mod lease;
+mod made;
+mod rules;
 mod session;
 #[cfg(test)]
 mod tests;

@@ -1,6 +1,6 @@
 -- The ids of server sessions (Driver Sessions, Generating a Session ID locally; RFC 4122, version 4).
-use Rattle.std.specs.Prelude.{ℕ, Bool, List, ◌++◌}
-use Rattle.std.specs.Int.{w64, to_be_bytes}
+use Rattle.std.specs.Prelude.{ℕ, ◌+◌, ◌*◌, ◌^◌, Bool}
+use Rattle.std.specs.Int.{w128, to_be_bytes}
 use Rattle.std.specs.Ordering.{nat_cmp, is_eq}
 use Rattle.std.specs.declared.cmp.Ordering.{Ordering}
 use Rattle.std.specs.Cmp.Lexicographic.{slice_cmp}
@@ -9,10 +9,10 @@ use Rattle.uuid.specs.declared.Variant.TheVariants.{RFC4122}
 use Rattle.uuid.specs.declared.Version.TheVariants.{Random}
 use Rattle.bson_doc.specs.declared.ids.Lsid.{Lsid}
 
--- A version 4 UUID of two random words: the first is its first eight bytes, the highest first, the second its last eight; then
--- the bits of the variant and of the version are set.
+-- A version 4 UUID of two random words: the first word is its first eight bytes, the second its last eight, each with the highest
+-- byte first; then the bits of the variant and of the version are set.
 abbrev pub id_of : ℕ → ℕ → Lsid
-id_of w1 w2 = record { 0 = with_version (with_variant (to_be_bytes w64 w1 ++ to_be_bytes w64 w2) RFC4122) Random }
+id_of w1 w2 = record { 0 = with_version (with_variant (to_be_bytes w128 (w1 * 2 ^ 64 + w2)) RFC4122) Random }
 
 -- Ids in the order of their bytes, from the first on.
 abbrev pub lsid_cmp : Lsid → Lsid → Ordering

@@ -1,7 +1,7 @@
 #!/usr/bin/env python3
 """A loopback peer for mdc: takes connections one after another, and answers each with bytes that were written by hand.
 
-usage: responder.py PORT_FILE RECEIVED_FILE REPLY...
+usage: responder.py [--limit SECONDS] PORT_FILE RECEIVED_FILE REPLY...
 
 REPLY is one connection's answer: MODE:HEX with MODE one of
   whole    the bytes at once
@@ -9,14 +9,13 @@ REPLY is one connection's answer: MODE:HEX with MODE one of
   cut      the bytes, then the end of the stream
   early    the end of the stream as soon as the request is there
   silent   no answer; the stream stays until the peer ends it
-It writes its port to PORT_FILE, and each connection's request in hexadecimal as a line of RECEIVED_FILE.
+It writes its port to PORT_FILE, and each connection's request in hexadecimal as a line of RECEIVED_FILE. It ends behind
+its last answer, or where it has waited for that many seconds (60) for a connection or for bytes.
 """
 
+import argparse
 import socket
-import sys
 import time
-
-LIMIT_SECONDS = 60
 
 
 def take_request(connection):
@@ -50,23 +49,28 @@ def rest_of(connection):
 
 
 def main():
-    port_file, received_file, *plans = sys.argv[1:]
+    words = argparse.ArgumentParser()
+    words.add_argument("--limit", type=float, default=60)
+    words.add_argument("port_file")
+    words.add_argument("received_file")
+    words.add_argument("plans", nargs="*")
+    given = words.parse_args()
     server = socket.create_server(("127.0.0.1", 0))
-    server.settimeout(LIMIT_SECONDS)
-    with open(port_file, "w") as out:
+    server.settimeout(given.limit)
+    with open(given.port_file, "w") as out:
         out.write(str(server.getsockname()[1]))
-    for plan in plans:
+    for plan in given.plans:
         mode, digits = plan.split(":", 1)
         connection, _ = server.accept()
         with connection:
-            connection.settimeout(LIMIT_SECONDS)
+            connection.settimeout(given.limit)
             request = take_request(connection)
             try:
                 answer(connection, mode, bytes.fromhex(digits))
             except ConnectionError:
                 pass  # the peer refused the reply before it was all sent
             more = rest_of(connection)
-        with open(received_file, "a") as out:
+        with open(given.received_file, "a") as out:
             out.write((request + more).hex() + "\n")
 
 

@@ -2,14 +2,22 @@
 """The cases of scripts/smoke: what a peer answers over a real socket, and what mdc must print, end with and have sent."""
 
 import os
+import socket
 import subprocess
 import sys
 import tempfile
+import threading
 import time
 from pathlib import Path
 
 HERE = Path(__file__).parent
 WAIT_SECONDS = 40
+
+# The inserts of a timed script.
+COUNT = 1000
+
+# Nothing listens there.
+NOBODY = "127.0.0.1:1"
 
 # The script of one insert.
 SCRIPT = '{"lane":1,"op":"insert","coll":"a","doc":{"_id":7}}\n'
@@ -139,15 +147,45 @@ def script_cases(mdc, counts):
     compare("a wrong id and a cut", run(mdc, ["run", peer.host, "-", "test"], SCRIPT * 6), wanted, counts)
     compare("the peer of those", peer.end(), (0, [request(id) for id in range(1, 7)]), counts)
 
-    count = 1000
-    peer = Peer([f"whole:{reply_to(id)}" for id in range(1, count + 1)])
+
+def seconds_of(call):
+    """How long a call takes, and what it gives."""
     began = time.monotonic()
-    got = run(mdc, ["run", peer.host, "-", "test"], SCRIPT * count)
-    took = time.monotonic() - began
-    lines = "".join(f"{k}: ok n=1 modified=0 attempts=1\n" for k in range(1, count + 1))
-    compare(f"a script of {count} inserts", got, (0, f"{lines}done {count} ok {count}\n", ""), counts)
-    compare("the peer of those", peer.end(), (0, [request(id) for id in range(1, count + 1)]), counts)
-    print(f"a script of {count} inserts took {took:.2f} seconds")
+    given = call()
+    return time.monotonic() - began, given
+
+
+def plain_inserts(host):
+    """So many inserts by a client of this file, each on a connection of its own, waiting in each read."""
+    name, port = host.split(":")
+    for _ in range(COUNT):
+        with socket.create_connection((name, int(port))) as connection:
+            connection.setsockopt(socket.IPPROTO_TCP, socket.TCP_NODELAY, 1)
+            connection.sendall(bytes.fromhex(REQUEST))
+            connection.recv(65536)
+
+
+def timed_cases(mdc, counts):
+    """So many inserts, and that a rest ends when the reply comes: mdc takes about as long as for as many dials that fail
+    and a plain client for its replies, and a millisecond more an insert where each rest lasts its time. Other work on
+    the machine can blur that, so it is tried again before it counts as failed."""
+    lines = "".join(f"{k}: ok n=1 modified=0 attempts=1\n" for k in range(1, COUNT + 1))
+    for attempt in range(5):
+        peer = Peer([f"whole:{reply_to(id)}" for id in range(1, COUNT + 1)])
+        took, got = seconds_of(lambda: run(mdc, ["run", peer.host, "-", "test"], SCRIPT * COUNT))
+        received = peer.end()
+        if attempt == 0:
+            compare(f"a script of {COUNT} inserts", got, (0, f"{lines}done {COUNT} ok {COUNT}\n", ""), counts)
+            compare("the peer of those", received, (0, [request(id) for id in range(1, COUNT + 1)]), counts)
+        failing, _ = seconds_of(lambda: run(mdc, ["run", NOBODY, "-", "test"], SCRIPT * COUNT))
+        peer = Peer([f"whole:{REPLY}"] * COUNT)
+        plain, _ = seconds_of(lambda: plain_inserts(peer.host))
+        peer.end()
+        print(f"{COUNT} inserts took {took:.2f} seconds, where nothing listens {failing:.2f}, by a plain client {plain:.2f}")
+        ends = took < failing + plain + COUNT * 0.00025
+        if ends:
+            break
+    compare("a rest ends when the reply comes", ends, True, counts)
 
 
 def word_cases(mdc, counts):
@@ -155,7 +193,7 @@ def word_cases(mdc, counts):
                ["run", "h:1,i:1", "-", "d"], ["run", "h:1", "rs0", "d"], ["run", "h:70000", "-", "d"]]
     for words in refused:
         compare(f"the words {words}", run(mdc, words), (2, "", "mdc: usage\n"), counts)
-    nobody = ["run", "127.0.0.1:1", "-", "test"]
+    nobody = ["run", NOBODY, "-", "test"]
     compare("nothing listens", run(mdc, nobody), (1, f"{NETWORK}\ndone 1 ok 0\n", ""), counts)
     compare("an empty script", run(mdc, nobody, ""), (0, "done 0 ok 0\n", ""), counts)
     compare("lines of spaces, CR, no LF at the end", run(mdc, nobody, "  \r\n" + SCRIPT.replace("\n", "\r\n") + SCRIPT[:-1]),
@@ -170,7 +208,7 @@ def word_cases(mdc, counts):
 
 
 class SilentCase:
-    """A peer that never answers: the call comes back late. It runs beside the other cases."""
+    """A peer that never answers: the call comes back late, and sleeps until then. It runs beside the other cases."""
 
     def __init__(self, mdc):
         self.peer = Peer(["silent:"])
@@ -180,14 +218,26 @@ class SilentCase:
         )
         self.call.stdin.write(SCRIPT)
         self.call.stdin.close()
-        self.call.stdin = None
+        self.watching = threading.Thread(target=self.watch)
+        self.watching.start()
+
+    def watch(self):
+        self.out, self.err = self.call.stdout.read(), self.call.stderr.read()
+        _, status, used = os.wait4(self.call.pid, 0)
+        self.took = time.monotonic() - self.began
+        self.call.returncode = os.waitstatus_to_exitcode(status)
+        self.spent = used.ru_utime + used.ru_stime
 
     def end(self, counts):
-        out, err = self.call.communicate(timeout=WAIT_SECONDS)
-        took = time.monotonic() - self.began
+        self.watching.join(WAIT_SECONDS)
+        if self.watching.is_alive():
+            self.call.kill()
+            self.watching.join()
         wanted = (1, "1: late attempts=1\ndone 1 ok 0\n", "")
-        compare("a peer that never answers", (self.call.returncode, out, err), wanted, counts)
-        compare("it came back after 30 to 35 seconds", 30 <= took < 35, True, counts)
+        compare("a peer that never answers", (self.call.returncode, self.out, self.err), wanted, counts)
+        print(f"it came back after {self.took:.2f} seconds, of which it kept a processor busy for {self.spent:.2f}")
+        compare("it came back after 30 to 35 seconds", 30 <= self.took < 35, True, counts)
+        compare("it slept most of them", self.spent < 3, True, counts)
         self.peer.end()
 
 
@@ -197,6 +247,7 @@ def main():
     silent = SilentCase(mdc)
     peer_cases(mdc, counts)
     script_cases(mdc, counts)
+    timed_cases(mdc, counts)
     word_cases(mdc, counts)
     silent.end(counts)
     print(f"{counts[0]} passed, {counts[1]} failed")

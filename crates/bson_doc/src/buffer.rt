@@ -23,7 +23,7 @@ impl<T> Model for Buffer<T> {
 impl<T> Buffer<T> {
     /// The empty buffer, without room; it takes no memory.
     pub fn new(alloc: Global) -> Buffer<T>
-        ensures { result.items ≡ [] }
+        ensures empty { result.items ≡ [] }
     {
         Buffer {
             held: Vec::new(alloc),
@@ -32,7 +32,7 @@ impl<T> Buffer<T> {
 
     /// The items of a list, with its memory.
     pub fn from_rows(rows: Rows<T>) -> Buffer<T>
-        ensures { result.items ≡ rows }
+        ensures value { result.items ≡ rows }
     {
         Buffer {
             held: rows.into_vec(),
@@ -41,7 +41,7 @@ impl<T> Buffer<T> {
 
     /// The items as a list, with the same memory.
     pub fn into_rows(self) -> Rows<T>
-        ensures { result ≡ self.items }
+        ensures value { result ≡ self.items }
     {
         let Buffer { held } = self;
         Rows::from_vec(held)
@@ -49,14 +49,14 @@ impl<T> Buffer<T> {
 
     /// How many items it has.
     pub fn len(&self) -> usize
-        ensures { result ≡ length self.now.items }
+        ensures count { result ≡ length self.now.items }
     {
         self.held.len()
     }
 
     /// The items, in order.
     pub fn as_slice(&self) -> &[T]
-        ensures { result.now ≡ self.now.items }
+        ensures value { result.now ≡ self.now.items }
     {
         self.held.as_slice()
     }

@@ -7,7 +7,7 @@ impl Document {
     /// An equal document.
     #[cycle(copy)]
     pub fn copy(&self, alloc: Global) -> Result<Document, Memory>
-        ensures { IfOk result (λ d. d ≡ self.now) }
+        ensures equal { IfOk result (λ d. d ≡ self.now) }
     {
         let elements = copy_elements(alloc, self.elements.as_slice())?;
         Ok(Document { elements })
@@ -18,7 +18,7 @@ impl Value {
     /// An equal value.
     #[cycle(copy)]
     pub fn copy(&self, alloc: Global) -> Result<Value, Memory>
-        ensures { IfOk result (λ v. v ≡ self.now) }
+        ensures equal { IfOk result (λ v. v ≡ self.now) }
     {
         match self {
             Value::Double(raw) => Ok(Value::Double(*raw)),

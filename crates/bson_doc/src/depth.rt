@@ -8,7 +8,7 @@ impl Document {
     /// deepest one inside. Past u32's greatest number it stays there.
     #[cycle(depth)]
     pub fn depth(&self) -> u32
-        ensures { result ≡ min (depth_of self.now) (2 ^ 32 - 1) }
+        ensures depth { result ≡ min (depth_of self.now) (2 ^ 32 - 1) }
     {
         depth_of_elements(self.elements.as_slice())
     }

@@ -13,26 +13,32 @@
 //! [`Document::at`]. Every call that allocates takes an allocator first and answers [`Memory`] where it gets none.
 #![tactic(auto)]
 
+mod bson_fault;
 mod buffer;
 mod cluster_time;
 mod copy;
 mod depth;
 mod document;
 mod ids;
+mod kind;
 mod name;
 mod readings;
 mod rows;
+mod same;
 #[cfg(test)]
 mod tests;
 mod text;
 mod topology_version;
 mod value;
 
+pub use bson_fault::BsonFault;
 pub use buffer::Buffer;
 pub use cluster_time::ClusterTime;
 pub use ids::{Lsid, Oid};
-pub use name::{HasNul, Name};
+pub use kind::{Kind, PlainKind};
+pub use name::{HasNul, Name, NameFault, first_zero};
 pub use rows::{Bytes, Rows};
+pub use same::same_bytes;
 pub use text::Text;
 pub use topology_version::TopologyVersion;
 pub use value::{Document, Value, is_one};

@@ -1,8 +1,8 @@
-ghost use Rattle.std.specs.Prelude.{◌≡◌, position, ◌==◌, MatchResult, IfOk, IsUtf8};
+ghost use Rattle.std.specs.Prelude.{◌≡◌, ◌≢◌, ℕ, position, ◌==◌, Some, Err, MatchResult, IfOk, IfErr, IsUtf8};
 ghost use Rattle.bson_doc.specs.Names.{HasNoZero};
 
 use crate::{Memory, Text};
-use std::alloc::Global;
+use std::alloc::{AllocError, Global};
 use std::marker::Model;
 use thiserror::Error;
 
@@ -31,15 +31,58 @@ pub struct HasNul {
     pub at: usize,
 }
 
+/// Why a text was not taken as a name.
+#[derive(Clone, Copy, Debug, PartialEq, Eq, Error)]
+pub enum NameFault {
+    /// It has a zero byte, and the first one is at the place.
+    #[error("a name has a zero byte at {at}")]
+    HasNul { at: usize },
+    /// There is not enough memory.
+    #[error("out of memory")]
+    Memory,
+}
+
+impl From<AllocError> for NameFault {
+    ghost use Rattle.bson_doc.specs.declared.name.NameFault.TheVariants.{Memory};
+
+    ghost from_gives = { λ _ e. e ≡ Memory };
+
+    fn from(_e: AllocError) -> NameFault {
+        NameFault::Memory
+    }
+}
+
 impl Name {
     /// The text as a name, refused exactly where it has a zero byte.
     pub fn new(text: Text) -> Result<Name, HasNul>
-        ensures { MatchResult result (λ n. (n ≡ text) × HasNoZero text) (λ e. position (λ b. b == 0) text ≡ Some e.at) }
+        ensures value { MatchResult result (λ n. (n ≡ text) × HasNoZero text) (λ e. position (λ b. b == 0) text ≡ Some e.at) }
     {
         match first_zero(text.as_str().as_bytes()) {
             Some(at) => Err(HasNul { at }),
             None => Ok(Name { text }),
         }
+    }
+
+    /// A copy of the text as a name. A text that has a zero byte is refused whatever the memory.
+    pub fn from_str(alloc: Global, text: &str) -> Result<Name, NameFault>
+        ensures value { IfOk result (λ n. (n ≡ text.now) × HasNoZero text.now) }
+        ensures zero { (at : ℕ) → position (λ b. b == 0) text.now ≡ Some at → result ≡ Err (NameFault.HasNul at) }
+        ensures fault { IfErr result (λ e. e ≢ NameFault.Memory → (at : ℕ) × (e ≡ NameFault.HasNul at) × (position (λ b. b == 0) text.now ≡ Some at)) }
+    {
+        if let Some(at) = first_zero(text.as_bytes()) {
+            return Err(NameFault::HasNul { at });
+        }
+        let name = Name::take(alloc, text)?;
+        Ok(name)
+    }
+
+    /// A copy of the text, which has no zero byte, as a name.
+    pub fn take(alloc: Global, text: &str) -> Result<Name, Memory>
+        requires no_zero { HasNoZero text.now }
+        ensures value { IfOk result (λ n. n ≡ text.now) }
+    {
+        let text = Text::take(alloc, text)?;
+        Ok(Name { text })
     }
 
     /// The name as a text, which has no zero byte.
@@ -53,16 +96,15 @@ impl Name {
 
     /// An equal name.
     pub fn copy(&self, alloc: Global) -> Result<Name, Memory>
-        ensures { IfOk result (λ n. n ≡ self.now) }
+        ensures equal { IfOk result (λ n. n ≡ self.now) }
     {
-        let text = Text::take(alloc, self.as_str())?;
-        Ok(Name { text })
+        Name::take(alloc, self.as_str())
     }
 }
 
-/// Where the first zero byte stands.
-fn first_zero(bytes: &[u8]) -> Option<usize>
-    ensures { result ≡ position (λ b. b == 0) bytes.now }
+/// Where the first zero byte stands, None exactly where there is none.
+pub fn first_zero(bytes: &[u8]) -> Option<usize>
+    ensures first { result ≡ position (λ b. b == 0) bytes.now }
 {
     bytes.iter().position(|b| *b == 0)
 }

@@ -9,7 +9,7 @@ use crate::{Document, Oid, Text, TopologyVersion, Value};
 impl Value {
     /// The text of a string.
     pub fn text(&self) -> Option<&Text>
-        ensures { option_map (λ t. t.now) result ≡ text_of self.now }
+        ensures text { option_map (λ t. t.now) result ≡ text_of self.now }
     {
         match self {
             Value::Str(text) => Some(text),
@@ -19,7 +19,7 @@ impl Value {
 
     /// The number of an int32 or an int64.
     pub fn whole(&self) -> Option<i64>
-        ensures { result ≡ whole_of self.now }
+        ensures number { result ≡ whole_of self.now }
     {
         match self {
             Value::Int32(n) => Some(i64::from(*n)),
@@ -30,7 +30,7 @@ impl Value {
 
     /// The number of an int32.
     pub fn int32(&self) -> Option<i32>
-        ensures { result ≡ int32_of self.now }
+        ensures number { result ≡ int32_of self.now }
     {
         match self {
             Value::Int32(n) => Some(*n),
@@ -40,7 +40,7 @@ impl Value {
 
     /// The number of an int64.
     pub fn int64(&self) -> Option<i64>
-        ensures { result ≡ int64_of self.now }
+        ensures number { result ≡ int64_of self.now }
     {
         match self {
             Value::Int64(n) => Some(*n),
@@ -50,7 +50,7 @@ impl Value {
 
     /// An ObjectId.
     pub fn oid(&self) -> Option<Oid>
-        ensures { result ≡ oid_of self.now }
+        ensures id { result ≡ oid_of self.now }
     {
         match self {
             Value::Oid(oid) => Some(*oid),
@@ -60,7 +60,7 @@ impl Value {
 
     /// A timestamp: seconds in the high half, an increment in the low one.
     pub fn stamp(&self) -> Option<u64>
-        ensures { result ≡ stamp_of self.now }
+        ensures stamp { result ≡ stamp_of self.now }
     {
         match self {
             Value::Stamp(stamp) => Some(*stamp),
@@ -70,7 +70,7 @@ impl Value {
 
     /// A document.
     pub fn document(&self) -> Option<&Document>
-        ensures { option_copied result ≡ document_of self.now }
+        ensures document { option_copied result ≡ document_of self.now }
     {
         match self {
             Value::Doc(document) => Some(document),
@@ -80,7 +80,7 @@ impl Value {
 
     /// The items of an array, in order.
     pub fn items(&self) -> Option<&[Value]>
-        ensures { option_map (λ items. items.now) result ≡ items_of self.now }
+        ensures items { option_map (λ items. items.now) result ≡ items_of self.now }
     {
         match self {
             Value::Array(items) => Some(items.as_slice()),
@@ -91,7 +91,7 @@ impl Value {
     /// The topology version that a document spells (SDAM, Topology Version): `processId`, an ObjectId, and `counter`, an
     /// int64; other elements do not count.
     pub fn topology_version(&self) -> Option<TopologyVersion>
-        ensures { result ≡ version_of self.now }
+        ensures version { result ≡ version_of self.now }
     {
         let version = self.document()?;
         let process = process_in(version)?;
@@ -101,13 +101,13 @@ impl Value {
 }
 
 fn process_in(version: &Document) -> Option<Oid>
-    ensures { result ≡ option_and_then oid_of (value_of (codes "processId") version.now.elements) }
+    ensures id { result ≡ option_and_then oid_of (value_of (codes "processId") version.now.elements) }
 {
     version.get("processId")?.oid()
 }
 
 fn counter_in(version: &Document) -> Option<i64>
-    ensures { result ≡ option_and_then int64_of (value_of (codes "counter") version.now.elements) }
+    ensures counter { result ≡ option_and_then int64_of (value_of (codes "counter") version.now.elements) }
 {
     version.get("counter")?.int64()
 }

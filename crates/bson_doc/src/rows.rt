@@ -30,7 +30,7 @@ impl<T> Model for Rows<T> {
 impl<T> Rows<T> {
     /// The empty list, which takes no memory.
     pub fn new(alloc: Global) -> Rows<T>
-        ensures { result ≡ [] }
+        ensures empty { result ≡ [] }
     {
         Rows {
             items: Vec::new(alloc),
@@ -39,14 +39,14 @@ impl<T> Rows<T> {
 
     /// The items of a `Vec`, with its memory.
     pub fn from_vec(items: Vec<T>) -> Rows<T>
-        ensures { result ≡ items.items }
+        ensures value { result ≡ items.items }
     {
         Rows { items }
     }
 
     /// The items as a `Vec`, with the same memory.
     pub fn into_vec(self) -> Vec<T>
-        ensures { result.items ≡ self }
+        ensures value { result.items ≡ self }
     {
         let Rows { items } = self;
         items
@@ -54,21 +54,21 @@ impl<T> Rows<T> {
 
     /// How many items it has.
     pub fn len(&self) -> usize
-        ensures { result ≡ length self.now }
+        ensures count { result ≡ length self.now }
     {
         self.items.len()
     }
 
     /// The items, in order.
     pub fn as_slice(&self) -> &[T]
-        ensures { result.now ≡ self.now }
+        ensures value { result.now ≡ self.now }
     {
         self.items.as_slice()
     }
 
     /// Takes memory for `more` further items, so that pushing them takes none.
     pub fn reserve(&mut self, more: usize) -> Result<(), Memory>
-        ensures { self.new ≡ self.old }
+        ensures items { self.new ≡ self.old }
     {
         self.items.reserve(more)
     }
@@ -88,7 +88,7 @@ impl<T: Drop> Rows<T> {
 impl<T: Copy> Rows<T> {
     /// A copy of the items.
     pub fn take(alloc: Global, items: &[T]) -> Result<Rows<T>, Memory>
-        ensures { IfOk result (λ rows. rows ≡ items.now) }
+        ensures value { IfOk result (λ rows. rows ≡ items.now) }
     {
         let items = Vec::from_slice(alloc, items)?;
         Ok(Rows { items })

@@ -1,12 +1,12 @@
 use crate::{
-    Buffer, Bytes, ClusterTime, Document, HasNul, Lsid, Name, Oid, Rows, Text, TopologyVersion,
-    Value, is_one,
+    Buffer, Bytes, ClusterTime, Document, HasNul, Lsid, Name, NameFault, Oid, Rows, Text,
+    TopologyVersion, Value, is_one,
 };
 use std::alloc::Global;
 use std::test::Fail;
 
 fn name(alloc: Global, text: &str) -> Result<Name, Fail> {
-    Ok(Name::new(Text::take(alloc, text)?)?)
+    Ok(Name::from_str(alloc, text)?)
 }
 
 /// `{a: 1, b: [true, {c: 2}], a: 3}`, of depth 3.
@@ -213,6 +213,32 @@ fn a_name_has_no_zero(rt: HostRuntime) -> Result<(), Fail> {
     assert_eq!(rt; name(alloc, "insert")?.copy(alloc)?.as_str(), "insert");
     let refused = Name::new(Text::take(alloc, "ab\0c\0")?);
     assert!(rt; matches!(refused, Err(HasNul { at: 2 })));
+    let refused = Name::from_str(alloc, "\0");
+    assert!(rt; matches!(refused, Err(NameFault::HasNul { at: 0 })));
+    Ok(())
+}
+
+#[test]
+fn what_is_copied_is_the_same(rt: HostRuntime) -> Result<(), Fail> {
+    let alloc = rt.alloc();
+    let held = held_kinds(alloc)?;
+    assert!(rt; held.same(&held.copy(alloc)?));
+    let document = sample(alloc)?;
+    assert!(rt; document.same(&sample(alloc)?));
+    assert!(rt; !document.same(&held));
+    Ok(())
+}
+
+#[test]
+fn numbers_of_two_kinds_are_not_the_same(rt: HostRuntime) -> Result<(), Fail> {
+    let alloc = rt.alloc();
+    let mut short = Document::new(alloc);
+    short.put(alloc, "n", Value::Int32(1))?;
+    let mut long = Document::new(alloc);
+    long.put(alloc, "n", Value::Int64(1))?;
+    assert!(rt; !short.same(&long));
+    let owned = Text::from_string(String::from_str(alloc, "n")?);
+    assert!(rt; owned.same(&Text::take(alloc, "n")?));
     Ok(())
 }
 

@@ -1,4 +1,4 @@
-ghost use Rattle.std.specs.Prelude.{◌≡◌, [], ◌++◌, length, encode_utf8, IfOk, OnOk, OnErr, IsUtf8};
+ghost use Rattle.std.specs.Prelude.{◌≡◌, [], ◌++◌, length, encode_utf8, string_bytes, IfOk, OnOk, OnErr, IsUtf8};
 
 use crate::Memory;
 use std::alloc::Global;
@@ -21,16 +21,23 @@ impl Model for Text {
 impl Text {
     /// The empty text, which takes no memory.
     pub fn new(alloc: Global) -> Text
-        ensures { result ≡ [] }
+        ensures empty { result ≡ [] }
     {
         Text {
             text: String::new(alloc),
         }
     }
 
+    /// The text of a `String`, with its memory.
+    pub fn from_string(text: String) -> Text
+        ensures value { result ≡ string_bytes text }
+    {
+        Text { text }
+    }
+
     /// A copy of the text.
     pub fn take(alloc: Global, text: &str) -> Result<Text, Memory>
-        ensures { IfOk result (λ t. t ≡ text.now) }
+        ensures value { IfOk result (λ t. t ≡ text.now) }
     {
         let text = String::from_str(alloc, text)?;
         Ok(Text { text })
@@ -38,7 +45,7 @@ impl Text {
 
     /// An equal text.
     pub fn copy(&self, alloc: Global) -> Result<Text, Memory>
-        ensures { IfOk result (λ t. t ≡ self.now) }
+        ensures equal { IfOk result (λ t. t ≡ self.now) }
     {
         Text::take(alloc, self.as_str())
     }
@@ -53,7 +60,7 @@ impl Text {
 
     /// How many bytes it has.
     pub fn len(&self) -> usize
-        ensures { result ≡ length self.now }
+        ensures count { result ≡ length self.now }
     {
         self.text.len()
     }

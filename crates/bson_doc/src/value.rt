@@ -83,7 +83,7 @@ pub struct Document {
 
 /// Whether the value is the number one, as servers say `ok`: an int32 or int64 of 1 or the double 1.0.
 pub fn is_one(value: &Value) -> bool
-    ensures { result ≡ one value.now }
+    ensures one { result ≡ one value.now }
 {
     match value {
         Value::Int32(n) => *n == 1,

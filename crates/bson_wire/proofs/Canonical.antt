@@ -14,10 +14,10 @@ use Rattle.bson_doc.specs.declared.value.Value.{Value, Value-F, map-Value, out-V
 use Rattle.bson_doc.specs.declared.value.Value.TheVariants as value
 use Rattle.bson_doc.specs.declared.value.Value.TheVariants.{rolls-Double, rolls-Str, rolls-Doc, rolls-Array, rolls-Binary, rolls-Undefined, rolls-Oid, rolls-Bool, rolls-Date, rolls-Null, rolls-Regex, rolls-DbPointer, rolls-Code, rolls-Symbol, rolls-Scope, rolls-Int32, rolls-Stamp, rolls-Int64, rolls-Decimal, rolls-Max, rolls-Min}
 use Rattle.bson_doc.specs.declared.value.Value.TheOpen as layer
-use Rattle.bson_wire.specs.declared.kind.Kind.{Kind}
-use Rattle.bson_wire.specs.Kinds.{byte_of}
-use Rattle.bson_wire.specs.Spelling.{IsString, IsRegex, IsDbPointer, IsArray, IsScope, IsPayload, AreElements, SpellsWithin, Spells, values}
-use Rattle.bson_wire.specs.Spelled.{string, scope, element, numbered, payload, spelled_elements, spelled, spelled_items}
+use Rattle.bson_doc.specs.declared.kind.Kind.{Kind}
+use Rattle.bson_doc.specs.wire.Kinds.{byte_of}
+use Rattle.bson_doc.specs.wire.Spelling.{IsString, IsRegex, IsDbPointer, IsArray, IsScope, IsPayload, AreElements, SpellsWithin, Spells, values}
+use Rattle.bson_doc.specs.wire.Spelled.{string, scope, element, numbered, payload, spelled_elements, spelled, spelled_items}
 use Rattle.bson_wire.specs.Written.{PayloadSpells, ElementSpells}
 use Rattle.bson_wire.proofs.Payloads.{payload-Str, payload-Doc, payload-Array, payload-Binary, payload-DbPointer, payload-Code, payload-Symbol, payload-Scope}
 use Rattle.bson_wire.proofs.PlainWritten.{double_spells, str_spells, code_spells, symbol_spells, binary_spells, undefined_spells, oid_spells, bool_spells, date_spells, null_spells, regex_spells, pointer_spells, int32_spells, stamp_spells, int64_spells, decimal_spells, max_spells, min_spells}

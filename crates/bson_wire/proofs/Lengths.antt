@@ -3,7 +3,7 @@ use Rattle.std.proofs.Common.{◌≡◌, ℕ, ◌+◌, ◌<◌, min, List, [], �
 use Rattle.std.proofs.lemmas.List.{length-append}
 use Rattle.bson_doc.specs.declared.name.Name.{Name}
 use Rattle.bson_doc.specs.declared.value.Value.{Value}
-use Rattle.bson_wire.specs.Spelled.{Payload, string, scope, regex, element, numbered, payload, spelled_elements}
+use Rattle.bson_doc.specs.wire.Spelled.{Payload, string, scope, regex, element, numbered, payload, spelled_elements}
 use Rattle.bson_wire.proofs.Written.{elements_left, items_left}
 
 pub length-element : (name : List ℕ) (v : Payload) → length (element name v) ≡ length name + length v.1 + 2

@@ -1,13 +1,6 @@
-pub mod Steps
-pub mod Texts
 pub mod Payloads
 pub mod Loop
-pub mod Fields
-pub mod PlainValues
-pub mod Documents
-pub mod Outermost
 pub mod Written
 pub mod PlainWritten
 pub mod Lengths
-pub mod Ahead
 pub mod Canonical

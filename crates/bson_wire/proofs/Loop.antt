@@ -4,19 +4,19 @@ use Rattle.std.proofs.lemmas.List.{append-nil, take_all, nil_from_length}
 use Rattle.bson_doc.specs.declared.name.Name.{Name}
 use Rattle.bson_doc.specs.declared.value.Document.{Document}
 use Rattle.bson_doc.specs.declared.value.Value.{Value}
-use Rattle.bson_wire.specs.declared.fault.BsonFault.{BsonFault}
-use Rattle.bson_wire.specs.Spelling.{values}
-use Rattle.bson_wire.specs.Reading.{◌>>=◌, Read, Fails, behind_zero, element_at, elements_at, body_at, unnamed_element, unnamed_elements, unnamed_document}
-use Rattle.bson_wire.proofs.Steps.{Fails-bind, Fails-mapped, mapped-Ok}
+use Rattle.bson_doc.specs.declared.bson_fault.BsonFault.{BsonFault}
+use Rattle.bson_doc.specs.Steps.{◌>>=◌, Fails}
+use Rattle.bson_doc.specs.declared.bson_fault.BsonFault.TheVariants as fault
+use Rattle.bson_doc.specs.wire.Spelling.{values}
+use Rattle.bson_doc.specs.wire.Reading.{Read, behind_zero, element_at, elements_at, body_at, unnamed_element, unnamed_elements, unnamed_document}
+use Rattle.bson_doc.proofs.Steps.{Fails-bind, Fails-mapped, mapped-Ok}
+use Rattle.bson_doc.proofs.wire.Documents.{document_of}
 
 abbrev pub Element : Type 0
 Element = Name × Value
 
 abbrev unnamed : Element × List ℕ → Value × List ℕ
 unnamed x = (x.0.1, x.1)
-
-abbrev pub document_of : List Element → Document
-document_of es = record { elements = es }
 
 -- the items of a loop: the elements, or their values
 pub record IsView {X : Type 0} (view : List Element → List X) (one : Element → X) : Type 0 where
@@ -53,11 +53,11 @@ step {X = X} view one is R start end front byte behind after e total h le (suc k
 
 -- a fault in the next element
 stop : {X : Type 0} (view : List Element → List X) (R : ℕ → List ℕ → Read Document) (start end : ℕ) (front : List X) (byte : ℕ) (behind : List ℕ) (e : BsonFault) (total : Result (List X) BsonFault)
-    → Fails e (element_at R start end byte behind) → GoesOn view R start end front (byte ∷ behind) total → Fails e total
+    → Fails fault.Memory e (element_at R start end byte behind) → GoesOn view R start end front (byte ∷ behind) total → Fails fault.Memory e total
 unfolding elements_at
 stop view R start end front byte behind e total h (zero, fits, so_far) = absurd (omega arith)
 stop view R start end front byte behind e total h (suc k, fits, so_far) =
-    subst (Fails e) so_far (Fails-bind e _ (λ es. Ok (front ++ view es)) (Fails-bind e _ (λ first. elements_at R k start end first.1 >>= (λ others. Ok (first.0 ∷ others))) h))
+    subst (Fails fault.Memory e) so_far (Fails-bind fault.Memory e _ (λ es. Ok (front ++ view es)) (Fails-bind fault.Memory e _ (λ first. elements_at R k start end first.1 >>= (λ others. Ok (first.0 ∷ others))) h))
 
 -- the end of the bytes
 ended : {X : Type 0} (view : List Element → List X) (one : Element → X) → IsView view one → (R : ℕ → List ℕ → Read Document) (start end : ℕ) (front : List X) (total : Result (List X) BsonFault)
@@ -89,9 +89,15 @@ goes_on_item R start end front rest after v total lt h le so_far =
     subst (λ (w : Value). GoesOn values R start end (front ++ w ∷ []) after total) same (goes_on values (λ e. e.1) values_view R start end front rest after m.0.0 total lt read le so_far)
 
 pub stops : {X : Type 0} (view : List Element → List X) (R : ℕ → List ℕ → Read Document) (start end : ℕ) (front : List X) (rest : List ℕ) (e : BsonFault) (total : Result (List X) BsonFault)
-    → 1 ≤ length rest → Fails e (element_at R start end (get_or rest 0 0) (take (length rest - 1) (drop 1 rest))) → GoesOn view R start end front rest total → Fails e total
+    → 1 ≤ length rest → Fails fault.Memory e (element_at R start end (get_or rest 0 0) (take (length rest - 1) (drop 1 rest))) → GoesOn view R start end front rest total → Fails fault.Memory e total
 stops view R start end front rest e total lt h so_far =
     stop view R start end front _ _ e total h (subst (λ (xs : List ℕ). GoesOn view R start end front xs total) (parted rest (omega arith)) so_far)
+
+-- the same of an array, whose values alone are kept
+pub stops_item : (R : ℕ → List ℕ → Read Document) (start end : ℕ) (front : List Value) (rest : List ℕ) (e : BsonFault) (total : Result (List Value) BsonFault)
+    → 1 ≤ length rest → Fails fault.Memory e (unnamed_element (element_at R start end (get_or rest 0 0) (take (length rest - 1) (drop 1 rest)))) → GoesOn values R start end front rest total → Fails fault.Memory e total
+stops_item R start end front rest e total lt h so_far =
+    stops values R start end front rest e total lt (Fails-mapped unnamed fault.Memory e _ h) so_far
 
 pub is_done : {X : Type 0} (view : List Element → List X) (one : Element → X) → IsView view one → (R : ℕ → List ℕ → Read Document) (start end : ℕ) (front : List X) (rest : List ℕ) (total : Result (List X) BsonFault)
     → length rest < 1 → GoesOn view R start end front rest total → total ≡ Ok front
@@ -100,17 +106,17 @@ is_done view one is R start end front rest total lt so_far =
 
 -- an array's body, by its elements and its end
 pub unnamed_body-elements : (R : ℕ → List ℕ → Read Document) (start n : ℕ) (bytes : List ℕ) (e : BsonFault)
-    → Fails e (unnamed_elements (elements_at R n start (start + n - 1) (take (n - 5) bytes))) → Fails e (unnamed_document (body_at R start n bytes))
+    → Fails fault.Memory e (unnamed_elements (elements_at R n start (start + n - 1) (take (n - 5) bytes))) → Fails fault.Memory e (unnamed_document (body_at R start n bytes))
 unfolding body_at
 unnamed_body-elements R start n bytes e h =
-    Fails-bind e _ (λ x. Ok (values x.0.elements, x.1)) (Fails-bind e _ (λ es. behind_zero start (drop (n - 5) bytes) >>= (λ rest. Ok (document_of es, rest))) (Fails-mapped values e _ h))
+    Fails-bind fault.Memory e _ (λ x. Ok (values x.0.elements, x.1)) (Fails-bind fault.Memory e _ (λ es. behind_zero start (drop (n - 5) bytes) >>= (λ rest. Ok (document_of es, rest))) (Fails-mapped values fault.Memory e _ h))
 
 pub unnamed_body-end : (R : ℕ → List ℕ → Read Document) (start n : ℕ) (bytes : List ℕ) (items : List Value) (e : BsonFault)
-    → unnamed_elements (elements_at R n start (start + n - 1) (take (n - 5) bytes)) ≡ Ok items → Fails e (behind_zero start (drop (n - 5) bytes)) → Fails e (unnamed_document (body_at R start n bytes))
+    → unnamed_elements (elements_at R n start (start + n - 1) (take (n - 5) bytes)) ≡ Ok items → Fails fault.Memory e (behind_zero start (drop (n - 5) bytes)) → Fails fault.Memory e (unnamed_document (body_at R start n bytes))
 unfolding body_at
 unnamed_body-end R start n bytes items e h no_end =
     let m = mapped-Ok values (elements_at R n start (start + n - 1) (take (n - 5) bytes)) items h in
-    rw m.1 (Fails-bind e _ (λ x. Ok (values x.0.elements, x.1)) (Fails-bind e _ (λ rest. Ok (document_of m.0, rest)) no_end))
+    rw m.1 (Fails-bind fault.Memory e _ (λ x. Ok (values x.0.elements, x.1)) (Fails-bind fault.Memory e _ (λ rest. Ok (document_of m.0, rest)) no_end))
 
 pub unnamed_body-Ok : (R : ℕ → List ℕ → Read Document) (start n : ℕ) (bytes : List ℕ) (items : List Value) (rest : List ℕ)
     → unnamed_elements (elements_at R n start (start + n - 1) (take (n - 5) bytes)) ≡ Ok items → behind_zero start (drop (n - 5) bytes) ≡ Ok rest → unnamed_document (body_at R start n bytes) ≡ Ok (items, rest)

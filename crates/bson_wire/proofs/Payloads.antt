@@ -8,10 +8,10 @@ use Rattle.bson_doc.specs.declared.value.Document.{Document, fold-Document, fold
 use Rattle.bson_doc.specs.declared.value.Value.{Value, Value-F, map-Value, fold_out-Value, out-Value}
 use Rattle.bson_doc.specs.declared.value.Value.TheVariants as value
 use Rattle.bson_doc.specs.declared.value.Value.TheVariants.{outs-Double, outs-Str, outs-Doc, outs-Array, outs-Binary, outs-Undefined, outs-Oid, outs-Bool, outs-Date, outs-Null, outs-Regex, outs-DbPointer, outs-Code, outs-Symbol, outs-Scope, outs-Int32, outs-Stamp, outs-Int64, outs-Decimal, outs-Max, outs-Min}
-use Rattle.bson_wire.specs.declared.kind.Kind.TheVariants as kinds
-use Rattle.bson_wire.specs.declared.kind.PlainKind.TheVariants as plain
-use Rattle.bson_wire.specs.Spelling.{truth_byte}
-use Rattle.bson_wire.specs.Spelled.{Payload, number32, int64, string, binary, regex, scope, document, element, named, numbered, value_step, document_step, payload, spelled_elements, spelled}
+use Rattle.bson_doc.specs.declared.kind.Kind.TheVariants as kinds
+use Rattle.bson_doc.specs.declared.kind.PlainKind.TheVariants as plain
+use Rattle.bson_doc.specs.wire.Spelling.{truth_byte}
+use Rattle.bson_doc.specs.wire.Spelled.{Payload, number32, int64, string, binary, regex, scope, document, element, named, numbered, value_step, document_step, payload, spelled_elements, spelled}
 
 abbrev spelled_by_fold : Document → List ℕ
 spelled_by_fold = fold-Document Payload (List ℕ) value_step document_step

@@ -14,9 +14,9 @@ use Rattle.bson_doc.specs.declared.value.Document.{Document}
 use Rattle.bson_doc.specs.declared.value.Value.{Value, Value-F, out-Value}
 use Rattle.bson_doc.specs.declared.value.Value.TheVariants as value
 use Rattle.bson_doc.specs.declared.value.Value.TheVariants.{outs-Double, outs-Str, outs-Code, outs-Symbol, outs-Binary, outs-Undefined, outs-Oid, outs-Bool, outs-Date, outs-Null, outs-Regex, outs-DbPointer, outs-Int32, outs-Stamp, outs-Int64, outs-Decimal, outs-Max, outs-Min}
-use Rattle.bson_wire.specs.Spelling.{IsNumber32, IsString, IsName, IsPayload, SpellsWithin, truth_byte}
-use Rattle.bson_wire.specs.Spelled.{Payload, number32, int64, string, binary, payload}
-use Rattle.bson_wire.specs.Reading.{int64_of}
+use Rattle.bson_doc.specs.wire.Spelling.{IsNumber32, IsString, IsName, IsPayload, SpellsWithin, truth_byte}
+use Rattle.bson_doc.specs.wire.Spelled.{Payload, number32, int64, string, binary, payload}
+use Rattle.bson_doc.specs.wire.Reading.{int64_of}
 use Rattle.bson_wire.specs.Written.{PayloadSpells}
 use Rattle.bson_wire.proofs.Payloads.{payload-Double, payload-Str, payload-Code, payload-Symbol, payload-Binary, payload-Undefined, payload-Oid, payload-Bool, payload-Date, payload-Null, payload-Regex, payload-DbPointer, payload-Int32, payload-Stamp, payload-Int64, payload-Decimal, payload-Max, payload-Min}
 

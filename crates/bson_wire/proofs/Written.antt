@@ -14,10 +14,10 @@ use Rattle.bson_doc.specs.declared.value.Value.TheVariants as value
 use Rattle.bson_doc.specs.declared.value.Value.TheVariants.{outs-Doc, outs-Array, outs-Scope}
 use Rattle.bson_wire.specs.declared.fault.EncodeFault.{EncodeFault}
 use Rattle.bson_wire.specs.declared.fault.EncodeFault.TheVariants as fault
-use Rattle.bson_wire.specs.Spelling.{IsNumber32, IsName, IsArray, IsElement, AreElements, SpellsWithin, Spells, values}
-use Rattle.bson_wire.specs.Spelled.{number32, string, scope, document, element, numbered, payload, spelled_elements, spelled, spelled_items}
+use Rattle.bson_doc.specs.wire.Spelling.{IsNumber32, IsName, IsArray, IsElement, AreElements, SpellsWithin, Spells, values}
+use Rattle.bson_doc.specs.wire.Spelled.{number32, string, scope, document, element, numbered, payload, spelled_elements, spelled, spelled_items}
 use Rattle.bson_wire.specs.Written.{PayloadSpells, ElementSpells, Stops}
-use Rattle.bson_wire.proofs.Texts.{HasNoZero-from}
+use Rattle.bson_doc.proofs.wire.Texts.{HasNoZero-from}
 use Rattle.bson_wire.proofs.Payloads.{payload-Doc, payload-Array, payload-Scope}
 use Rattle.bson_wire.proofs.PlainWritten.{spells_by, number32_is, is_string}
 

@@ -8,9 +8,9 @@ use Rattle.bson_doc.specs.declared.value.Value.{Value, Value-F, out-Value}
 use Rattle.bson_doc.specs.declared.value.Value.TheOpen as layer
 use Rattle.bson_wire.specs.declared.fault.EncodeFault.{EncodeFault}
 use Rattle.bson_wire.specs.declared.fault.EncodeFault.TheVariants as fault
-use Rattle.bson_wire.specs.Limits.{most_bytes}
-use Rattle.bson_wire.specs.Spelling.{IsName, IsPayload, SpellsWithin}
-use Rattle.bson_wire.specs.Spelled.{payload}
+use Rattle.bson_doc.specs.wire.Limits.{most_bytes}
+use Rattle.bson_doc.specs.wire.Spelling.{IsName, IsPayload, SpellsWithin}
+use Rattle.bson_doc.specs.wire.Spelled.{payload}
 
 -- The payload spells the value, where enough levels are left.
 abbrev pub PayloadSpells : Value → Type 0

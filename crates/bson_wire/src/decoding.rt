@@ -1,7 +1,7 @@
 ghost use Rattle.std.specs.Prelude.{◌≡◌, ◌≢◌, ◌≤◌, ℕ, List, ◌++◌, length, take, Some, None, IfOk, IfErr, OnOk, MatchResult};
 ghost use Rattle.bson_doc.specs.declared.value.Document.{Document};
-ghost use Rattle.bson_wire.specs.Spelling.{Spells};
-ghost use Rattle.bson_wire.specs.Reading.{Gives, read, flaw};
+ghost use Rattle.bson_doc.specs.wire.Spelling.{Spells};
+ghost use Rattle.bson_doc.specs.wire.Reading.{Gives, read, flaw};
 
 use crate::BsonFault;
 use crate::limits::{MOST_BYTES, MOST_LEVELS};
@@ -30,7 +30,7 @@ pub fn decode(alloc: Global, bytes: &[u8]) -> Result<(Document, usize), BsonFaul
 }
 
 /// The outermost document, and the bytes behind it.
-#[tactic(auto, unfolding(crate::specs::Reading::read))]
+#[tactic(auto, unfolding(bson_doc::specs::wire::Reading::read))]
 fn outermost(alloc: Global, bytes: &[u8]) -> Result<(Document, &[u8]), BsonFault>
     ensures gives { Gives (λ x. (x.0, x.1.now)) result (read bytes.now) }
     ensures rest { IfOk result (λ x. length x.1.now ≤ length bytes.now) }

@@ -1,8 +1,8 @@
 ghost use Rattle.std.specs.Prelude.{◌≡◌, ◌≤◌, ◌<◌, ℕ, List, ◌++◌, length, Ok, Err, IfOk, OnOk, IfErr};
 ghost use Rattle.bson_doc.specs.Documents.{depth_of};
-ghost use Rattle.bson_wire.specs.Spelling.{Spells};
-ghost use Rattle.bson_wire.specs.Spelled.{spelled};
-ghost use Rattle.bson_wire.specs.Reading.{read};
+ghost use Rattle.bson_doc.specs.wire.Spelling.{Spells};
+ghost use Rattle.bson_doc.specs.wire.Spelled.{spelled};
+ghost use Rattle.bson_doc.specs.wire.Reading.{read};
 
 use crate::EncodeFault;
 use crate::limits::MOST_LEVELS;

@@ -1,17 +1,17 @@
 //! Values of a fixed size.
 
 ghost use Rattle.std.specs.Prelude.{◌≡◌, ◌≤◌, length, IfOk};
-ghost use Rattle.bson_wire.specs.Reading.{Gives, plain_at};
+ghost use Rattle.bson_doc.specs.wire.Reading.{Gives, plain_at};
 
 use crate::BsonFault;
-use crate::kind::PlainKind;
+use bson_doc::PlainKind;
 use crate::parts::{bytes_of, place, raw};
 use crate::span::Span;
 use bson_doc::{Oid, Value};
 use byteorder::{ByteOrder, LittleEndian};
 
 /// A double, as its eight bytes.
-#[tactic(auto, unfolding(crate::specs::Reading::plain_at))]
+#[tactic(auto, unfolding(bson_doc::specs::wire::Reading::plain_at))]
 pub fn double_of(span: Span, bytes: &[u8]) -> Result<(Value, &[u8]), BsonFault>
     ensures gives { Gives (λ x. (x.0, x.1.now)) result
         (plain_at span.start span.end PlainKind.Double bytes.now) }
@@ -22,7 +22,7 @@ pub fn double_of(span: Span, bytes: &[u8]) -> Result<(Value, &[u8]), BsonFault>
 }
 
 /// An ObjectId.
-#[tactic(auto, unfolding(crate::specs::Reading::plain_at))]
+#[tactic(auto, unfolding(bson_doc::specs::wire::Reading::plain_at))]
 pub fn oid_of(span: Span, bytes: &[u8]) -> Result<(Value, &[u8]), BsonFault>
     ensures gives { Gives (λ x. (x.0, x.1.now)) result
         (plain_at span.start span.end PlainKind.Oid bytes.now) }
@@ -33,7 +33,7 @@ pub fn oid_of(span: Span, bytes: &[u8]) -> Result<(Value, &[u8]), BsonFault>
 }
 
 /// A truth value.
-#[tactic(auto, unfolding(crate::specs::Reading::plain_at, crate::specs::Reading::bool_at))]
+#[tactic(auto, unfolding(bson_doc::specs::wire::Reading::plain_at, bson_doc::specs::wire::Reading::bool_at))]
 pub fn bool_of(span: Span, bytes: &[u8]) -> Result<(Value, &[u8]), BsonFault>
     requires within { length bytes.now ≤ span.end }
     requires small { span.end ≤ 48000000 }
@@ -53,7 +53,7 @@ pub fn bool_of(span: Span, bytes: &[u8]) -> Result<(Value, &[u8]), BsonFault>
 }
 
 /// A UTC datetime.
-#[tactic(auto, unfolding(crate::specs::Reading::plain_at))]
+#[tactic(auto, unfolding(bson_doc::specs::wire::Reading::plain_at))]
 pub fn date_of(span: Span, bytes: &[u8]) -> Result<(Value, &[u8]), BsonFault>
     ensures gives { Gives (λ x. (x.0, x.1.now)) result
         (plain_at span.start span.end PlainKind.Date bytes.now) }
@@ -64,7 +64,7 @@ pub fn date_of(span: Span, bytes: &[u8]) -> Result<(Value, &[u8]), BsonFault>
 }
 
 /// A signed number of four bytes.
-#[tactic(auto, unfolding(crate::specs::Reading::plain_at))]
+#[tactic(auto, unfolding(bson_doc::specs::wire::Reading::plain_at))]
 pub fn int32_of(span: Span, bytes: &[u8]) -> Result<(Value, &[u8]), BsonFault>
     ensures gives { Gives (λ x. (x.0, x.1.now)) result
         (plain_at span.start span.end PlainKind.Int32 bytes.now) }
@@ -75,7 +75,7 @@ pub fn int32_of(span: Span, bytes: &[u8]) -> Result<(Value, &[u8]), BsonFault>
 }
 
 /// A timestamp.
-#[tactic(auto, unfolding(crate::specs::Reading::plain_at))]
+#[tactic(auto, unfolding(bson_doc::specs::wire::Reading::plain_at))]
 pub fn stamp_of(span: Span, bytes: &[u8]) -> Result<(Value, &[u8]), BsonFault>
     ensures gives { Gives (λ x. (x.0, x.1.now)) result
         (plain_at span.start span.end PlainKind.Stamp bytes.now) }
@@ -86,7 +86,7 @@ pub fn stamp_of(span: Span, bytes: &[u8]) -> Result<(Value, &[u8]), BsonFault>
 }
 
 /// A signed number of eight bytes.
-#[tactic(auto, unfolding(crate::specs::Reading::plain_at))]
+#[tactic(auto, unfolding(bson_doc::specs::wire::Reading::plain_at))]
 pub fn int64_of(span: Span, bytes: &[u8]) -> Result<(Value, &[u8]), BsonFault>
     ensures gives { Gives (λ x. (x.0, x.1.now)) result
         (plain_at span.start span.end PlainKind.Int64 bytes.now) }
@@ -97,7 +97,7 @@ pub fn int64_of(span: Span, bytes: &[u8]) -> Result<(Value, &[u8]), BsonFault>
 }
 
 /// A decimal number, as its sixteen bytes.
-#[tactic(auto, unfolding(crate::specs::Reading::plain_at))]
+#[tactic(auto, unfolding(bson_doc::specs::wire::Reading::plain_at))]
 pub fn decimal_of(span: Span, bytes: &[u8]) -> Result<(Value, &[u8]), BsonFault>
     ensures gives { Gives (λ x. (x.0, x.1.now)) result
         (plain_at span.start span.end PlainKind.Decimal bytes.now) }

@@ -2,9 +2,9 @@
 
 ghost use Rattle.std.specs.Prelude.{◌≡◌, ◌≢◌, ◌≤◌, ◌<◌, ◌↔◌, All, length, ℕ, List, [], ◌++◌, take, Some, None, Ok};
 ghost use Rattle.bson_doc.specs.declared.value.Document.{Document};
-ghost use Rattle.bson_wire.specs.Spelling.{Spells};
-ghost use Rattle.bson_wire.specs.Spelled.{spelled};
-ghost use Rattle.bson_wire.specs.Reading.{read, flaw};
+ghost use Rattle.bson_doc.specs.wire.Spelling.{Spells};
+ghost use Rattle.bson_doc.specs.wire.Spelled.{spelled};
+ghost use Rattle.bson_doc.specs.wire.Reading.{read, flaw};
 
 use crate::BsonFault;
 

@@ -22,7 +22,6 @@ mod decoding;
 mod encoding;
 mod fault;
 mod fixed;
-mod kind;
 mod laws;
 mod limits;
 mod parts;
@@ -39,6 +38,7 @@ mod writing;
 
 pub use decoding::decode;
 pub use encoding::encode;
-pub use fault::{BsonFault, EncodeFault};
+pub use bson_doc::BsonFault;
+pub use fault::EncodeFault;
 pub use laws::{flawless, no_look_ahead, no_prefix, one_document, read_again, spelled_spells};
 pub use sizes::size;

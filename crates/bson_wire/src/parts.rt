@@ -2,7 +2,7 @@
 
 ghost use Rattle.std.specs.Prelude.{◌≡◌, ◌≤◌, ◌+◌, ◌-◌, ◌==◌, length, position, IfOk, IfErr};
 ghost use Rattle.bson_doc.specs.Names.{HasNoZero};
-ghost use Rattle.bson_wire.specs.Reading.{Gives, bytes_at, byte_at, behind_zero, text_at, name_at, length_at, string_at};
+ghost use Rattle.bson_doc.specs.wire.Reading.{Gives, bytes_at, byte_at, behind_zero, text_at, name_at, length_at, string_at};
 
 use crate::BsonFault;
 use bson_doc::{Name, Text};
@@ -64,7 +64,7 @@ pub fn zero_of(at: u32, bytes: &[u8]) -> Result<&[u8], BsonFault>
 }
 
 /// All of the bytes as a text.
-#[tactic(auto, using(crate::proofs::Texts::texts))]
+#[tactic(auto, using(bson_doc::proofs::wire::Texts::texts))]
 pub fn text_of(at: u32, bytes: &[u8]) -> Result<&str, BsonFault>
     requires { at + length bytes.now ≤ 48000000 }
     ensures { Gives (λ x. x.now) result (text_at at bytes.now) }
@@ -85,7 +85,7 @@ fn first_zero(bytes: &[u8]) -> Option<usize>
 }
 
 /// The name of an element.
-#[tactic(auto, unfolding(crate::specs::Reading::name_at))]
+#[tactic(auto, unfolding(bson_doc::specs::wire::Reading::name_at))]
 pub fn name_of(start: u32, end: usize, bytes: &[u8]) -> Result<(&str, &[u8]), BsonFault>
     requires within { length bytes.now ≤ end }
     requires small { end ≤ 48000000 }
@@ -111,7 +111,7 @@ pub fn taken_name(alloc: Global, text: &str) -> Result<Name, BsonFault>
 }
 
 /// A length field: its number, and what stands behind it.
-#[tactic(auto, unfolding(crate::specs::Reading::length_at))]
+#[tactic(auto, unfolding(bson_doc::specs::wire::Reading::length_at))]
 pub fn length_of(
     least: usize,
     own: usize,
@@ -135,7 +135,7 @@ pub fn length_of(
 }
 
 /// A text with its length in front and 00 behind.
-#[tactic(auto, unfolding(crate::specs::Reading::string_at))]
+#[tactic(auto, unfolding(bson_doc::specs::wire::Reading::string_at))]
 pub fn string_of(alloc: Global, end: usize, bytes: &[u8]) -> Result<(Text, &[u8]), BsonFault>
     requires within { length bytes.now ≤ end }
     requires small { end ≤ 48000000 }

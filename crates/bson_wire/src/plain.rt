@@ -1,18 +1,18 @@
 //! Values that hold no document, by their kind.
 
 ghost use Rattle.std.specs.Prelude.{◌≤◌, length, IfOk};
-ghost use Rattle.bson_wire.specs.Reading.{Gives, plain_at};
+ghost use Rattle.bson_doc.specs.wire.Reading.{Gives, plain_at};
 
 use crate::BsonFault;
 use crate::fixed::{bool_of, date_of, decimal_of, double_of, int32_of, int64_of, oid_of, stamp_of};
-use crate::kind::PlainKind;
+use bson_doc::PlainKind;
 use crate::span::Span;
 use crate::varying::{binary_of, code_of, pointer_of, regex_of, str_of, symbol_of};
 use bson_doc::Value;
 use std::alloc::Global;
 
 /// A value of a kind that holds no document.
-#[tactic(auto, unfolding(crate::specs::Reading::plain_at))]
+#[tactic(auto, unfolding(bson_doc::specs::wire::Reading::plain_at))]
 pub fn plain_of(
     alloc: Global,
     kind: PlainKind,

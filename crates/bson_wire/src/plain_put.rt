@@ -3,12 +3,12 @@
 ghost use Rattle.std.specs.Prelude.{◌≡◌, ◌≤◌, ◌<◌, ◌^◌, ◌++◌, length, OnOk, IfErr, FitsSigned};
 ghost use Rattle.std.specs.Int.{w32, w64, cast_unsigned};
 ghost use Rattle.byteorder.specs.Endian.{little_bytes};
-ghost use Rattle.bson_wire.specs.Spelling.{IsName};
-ghost use Rattle.bson_wire.specs.Spelled.{number32, int64, string, binary, regex, payload};
+ghost use Rattle.bson_doc.specs.wire.Spelling.{IsName};
+ghost use Rattle.bson_doc.specs.wire.Spelled.{number32, int64, string, binary, regex, payload};
 ghost use Rattle.bson_wire.specs.Written.{Stops, PayloadSpells, IsPlain};
 
 use crate::EncodeFault;
-use crate::kind::{Kind, PlainKind};
+use bson_doc::{Kind, PlainKind};
 use crate::limits::MOST_BYTES;
 use crate::put::{put_byte, put_bytes, put_number, put_string};
 use bson_doc::{Name, Oid, Value};

@@ -1,7 +1,7 @@
 //! The parts that values are written by: bytes, numbers, texts, totals, and the end of a document.
 
 ghost use Rattle.std.specs.Prelude.{◌≡◌, ◌≤◌, ◌+◌, ◌∷◌, [], ◌++◌, length, take, drop, vec_len, OnOk, IfErr};
-ghost use Rattle.bson_wire.specs.Spelled.{number32, string, document, counted};
+ghost use Rattle.bson_doc.specs.wire.Spelled.{number32, string, document, counted};
 ghost use Rattle.bson_wire.specs.Written.{Stops};
 
 use crate::EncodeFault;

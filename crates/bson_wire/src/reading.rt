@@ -1,10 +1,10 @@
 //! Documents, arrays and code with a scope, and the values, elements and bodies inside them. Each reader goes from the left to the right.
 
 ghost use Rattle.std.specs.Prelude.{ℕ, ◌≡◌, ◌≤◌, ◌+◌, ◌-◌, ◌<◌, length, take, drop, IfOk};
-ghost use Rattle.bson_wire.specs.Reading.{Gives, unnamed_element, unnamed_elements, unnamed_document, kind_at, value_at, scope_at, element_at, elements_at, body_at, document_at};
+ghost use Rattle.bson_doc.specs.wire.Reading.{Gives, unnamed_element, unnamed_elements, unnamed_document, kind_at, value_at, scope_at, element_at, elements_at, body_at, document_at};
 
 use crate::BsonFault;
-use crate::kind::Kind;
+use bson_doc::Kind;
 use crate::parts::{length_of, name_of, place, string_of, taken_name, zero_of};
 use crate::plain::plain_of;
 use crate::span::Span;
@@ -35,7 +35,7 @@ fn kind_of(start: u32, at: u32, byte: u8) -> Result<Kind, BsonFault>
 
 /// A document inside another, where so many levels are left.
 #[cycle(reading)]
-#[tactic(auto, unfolding(crate::specs::Reading::document_at))]
+#[tactic(auto, unfolding(bson_doc::specs::wire::Reading::document_at))]
 fn document_of(
     alloc: Global,
     levels: u32,
@@ -57,7 +57,7 @@ fn document_of(
 
 /// What stands behind the length field of a document.
 #[cycle(reading)]
-#[tactic(auto, unfolding(crate::specs::Reading::body_at))]
+#[tactic(auto, unfolding(bson_doc::specs::wire::Reading::body_at))]
 pub fn body_of(
     alloc: Global,
     levels: u32,
@@ -103,7 +103,7 @@ fn elements_of(
 
 /// What stands behind a type byte: a name and a value.
 #[cycle(reading)]
-#[tactic(auto, unfolding(crate::specs::Reading::element_at))]
+#[tactic(auto, unfolding(bson_doc::specs::wire::Reading::element_at))]
 fn element_of(
     alloc: Global,
     levels: u32,
@@ -126,7 +126,7 @@ fn element_of(
 
 /// A value of a kind.
 #[cycle(reading)]
-#[tactic(auto, unfolding(crate::specs::Reading::value_at))]
+#[tactic(auto, unfolding(bson_doc::specs::wire::Reading::value_at))]
 fn value_of(
     alloc: Global,
     levels: u32,
@@ -159,7 +159,7 @@ fn value_of(
 
 /// Code with the values of its names: a string and a document, which end where the total says.
 #[cycle(reading)]
-#[tactic(auto, unfolding(crate::specs::Reading::scope_at, crate::specs::Reading::inside_scope_at))]
+#[tactic(auto, unfolding(bson_doc::specs::wire::Reading::scope_at, bson_doc::specs::wire::Reading::inside_scope_at))]
 fn scope_of(
     alloc: Global,
     levels: u32,
@@ -185,7 +185,7 @@ fn scope_of(
 
 /// An array inside a document, where so many levels are left.
 #[cycle(reading)]
-#[tactic(auto, unfolding(crate::specs::Reading::document_at))]
+#[tactic(auto, unfolding(bson_doc::specs::wire::Reading::document_at))]
 fn array_of(
     alloc: Global,
     levels: u32,
@@ -249,7 +249,7 @@ fn items_of(alloc: Global, levels: u32, span: Span, bytes: &[u8]) -> Result<Rows
 
 /// What stands behind a type byte in an array: a name, which is not kept, and a value.
 #[cycle(reading)]
-#[tactic(auto, unfolding(crate::specs::Reading::element_at))]
+#[tactic(auto, unfolding(bson_doc::specs::wire::Reading::element_at))]
 fn item_of(
     alloc: Global,
     levels: u32,

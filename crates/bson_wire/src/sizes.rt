@@ -1,7 +1,7 @@
 //! How many bytes the spelling of a document has, without writing it.
 
 ghost use Rattle.std.specs.Prelude.{◌≡◌, ◌+◌, ◌-◌, ◌^◌, min, length, map};
-ghost use Rattle.bson_wire.specs.Spelled.{numbered, payload, spelled, spelled_elements, string};
+ghost use Rattle.bson_doc.specs.wire.Spelled.{numbered, payload, spelled, spelled_elements, string};
 ghost use Rattle.bson_wire.specs.Written.{IsPlain};
 
 use bson_doc::{Document, Name, Oid, Value};

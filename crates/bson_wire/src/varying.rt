@@ -1,17 +1,17 @@
 //! Values of any size that hold no document.
 
 ghost use Rattle.std.specs.Prelude.{◌≡◌, ◌≤◌, length, IfOk};
-ghost use Rattle.bson_wire.specs.Reading.{Gives, plain_at};
+ghost use Rattle.bson_doc.specs.wire.Reading.{Gives, plain_at};
 
 use crate::BsonFault;
-use crate::kind::PlainKind;
+use bson_doc::PlainKind;
 use crate::parts::{byte_of, bytes_of, length_of, name_of, place, raw, string_of, taken_name};
 use crate::span::Span;
 use bson_doc::{Bytes, Oid, Value};
 use std::alloc::Global;
 
 /// A text.
-#[tactic(auto, unfolding(crate::specs::Reading::plain_at))]
+#[tactic(auto, unfolding(bson_doc::specs::wire::Reading::plain_at))]
 pub fn str_of(alloc: Global, span: Span, bytes: &[u8]) -> Result<(Value, &[u8]), BsonFault>
     requires within { length bytes.now ≤ span.end }
     requires small { span.end ≤ 48000000 }
@@ -24,7 +24,7 @@ pub fn str_of(alloc: Global, span: Span, bytes: &[u8]) -> Result<(Value, &[u8]),
 }
 
 /// JavaScript code.
-#[tactic(auto, unfolding(crate::specs::Reading::plain_at))]
+#[tactic(auto, unfolding(bson_doc::specs::wire::Reading::plain_at))]
 pub fn code_of(alloc: Global, span: Span, bytes: &[u8]) -> Result<(Value, &[u8]), BsonFault>
     requires within { length bytes.now ≤ span.end }
     requires small { span.end ≤ 48000000 }
@@ -37,7 +37,7 @@ pub fn code_of(alloc: Global, span: Span, bytes: &[u8]) -> Result<(Value, &[u8])
 }
 
 /// A symbol.
-#[tactic(auto, unfolding(crate::specs::Reading::plain_at))]
+#[tactic(auto, unfolding(bson_doc::specs::wire::Reading::plain_at))]
 pub fn symbol_of(alloc: Global, span: Span, bytes: &[u8]) -> Result<(Value, &[u8]), BsonFault>
     requires within { length bytes.now ≤ span.end }
     requires small { span.end ≤ 48000000 }
@@ -50,7 +50,7 @@ pub fn symbol_of(alloc: Global, span: Span, bytes: &[u8]) -> Result<(Value, &[u8
 }
 
 /// Bytes with a subtype.
-#[tactic(auto, unfolding(crate::specs::Reading::plain_at, crate::specs::Reading::binary_at))]
+#[tactic(auto, unfolding(bson_doc::specs::wire::Reading::plain_at, bson_doc::specs::wire::Reading::binary_at))]
 pub fn binary_of(alloc: Global, span: Span, bytes: &[u8]) -> Result<(Value, &[u8]), BsonFault>
     requires within { length bytes.now ≤ span.end }
     requires small { span.end ≤ 48000000 }
@@ -67,7 +67,7 @@ pub fn binary_of(alloc: Global, span: Span, bytes: &[u8]) -> Result<(Value, &[u8
 }
 
 /// A regular expression: its pattern and its options.
-#[tactic(auto, unfolding(crate::specs::Reading::plain_at, crate::specs::Reading::regex_at))]
+#[tactic(auto, unfolding(bson_doc::specs::wire::Reading::plain_at, bson_doc::specs::wire::Reading::regex_at))]
 pub fn regex_of(alloc: Global, span: Span, bytes: &[u8]) -> Result<(Value, &[u8]), BsonFault>
     requires within { length bytes.now ≤ span.end }
     requires small { span.end ≤ 48000000 }
@@ -83,7 +83,7 @@ pub fn regex_of(alloc: Global, span: Span, bytes: &[u8]) -> Result<(Value, &[u8]
 }
 
 /// A pointer into a collection.
-#[tactic(auto, unfolding(crate::specs::Reading::plain_at, crate::specs::Reading::pointer_at))]
+#[tactic(auto, unfolding(bson_doc::specs::wire::Reading::plain_at, bson_doc::specs::wire::Reading::pointer_at))]
 pub fn pointer_of(alloc: Global, span: Span, bytes: &[u8]) -> Result<(Value, &[u8]), BsonFault>
     requires within { length bytes.now ≤ span.end }
     requires small { span.end ≤ 48000000 }

@@ -2,7 +2,7 @@
 
 ghost use Rattle.std.specs.Prelude.{◌≡◌, ◌≤◌, ◌+◌, ◌∷◌, [], ◌++◌, length, take, drop, vec_len, OnOk, IfErr};
 ghost use Rattle.std.specs.List.{AllByRecursion};
-ghost use Rattle.bson_wire.specs.Spelled.{element, payload, scope, spelled, spelled_items, string};
+ghost use Rattle.bson_doc.specs.wire.Spelled.{element, payload, scope, spelled, spelled_items, string};
 ghost use Rattle.bson_wire.specs.Written.{Stops, PayloadSpells, ElementSpells};
 
 use crate::EncodeFault;

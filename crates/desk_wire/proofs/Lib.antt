@@ -1,7 +1,8 @@
-mod ArriveLemmas
 pub mod FrontLemmas
+pub mod GainLemmas
 pub mod MadeLemmas
-mod MessageLemmas
+pub mod MessageLemmas
+mod OrderLemmas
 mod PullLemmas
 mod PushLemmas
 pub mod SeenLemmas

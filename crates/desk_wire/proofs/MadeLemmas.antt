@@ -50,7 +50,7 @@ Made-joined kind e out came {a = a} {b = b} of_kind no_out no_in p = record {
   is_in = flat_map-append bytes_in p.turns (e ∷ []) ∙ ap (λ (l : List ℕ). flat_map bytes_in p.turns ++ (l ++ [])) no_in ∙ append-nil (flat_map bytes_in p.turns) ∙ p.is_in;
 }
 
-All-wider : (p q : NetEvent → Bool) → ((e : NetEvent) → p e ≡ true → q e ≡ true) → (events : List NetEvent) → All (λ e. p e ≡ true) events → All (λ e. q e ≡ true) events
+pub All-wider : (p q : NetEvent → Bool) → ((e : NetEvent) → p e ≡ true → q e ≡ true) → (events : List NetEvent) → All (λ e. p e ≡ true) events → All (λ e. q e ≡ true) events
 All-wider p q wider [] all = search rules
 All-wider p q wider (e ∷ events) all =
     let here : q e ≡ true = wider e (All-head (λ x. p x ≡ true) e events all) in

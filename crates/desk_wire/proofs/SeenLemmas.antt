@@ -32,7 +32,7 @@ turn-moves s v (event.Handled m t n f) here = cc
 turn-moves s v (event.Elected m) here = cc
 turn-moves s v (event.Followed m) here = cc
 
-turns-move : (s : ℕ) (v : Seen) (turns : List NetEvent) → All (λ e. is_turn s e ≡ true) turns → Moved v (fold (after s) v turns) (flat_map bytes_out turns) (flat_map bytes_in turns)
+pub turns-move : (s : ℕ) (v : Seen) (turns : List NetEvent) → All (λ e. is_turn s e ≡ true) turns → Moved v (fold (after s) v turns) (flat_map bytes_out turns) (flat_map bytes_in turns)
 turns-move s v [] all = record { is_out = sym (append-nil v.out); is_in = sym (append-nil v.came) }
 turns-move s v (e ∷ turns) all =
     let first = turn-moves s v e (All-head (λ x. is_turn s x ≡ true) e turns all) in
@@ -46,11 +46,11 @@ itself : (s : ℕ) → eqb s s ≡ true
 itself s = eq-eqb s s refl
 
 -- The last answer moves nothing.
-record Stays (before now : Seen) : Type 0 where
-  is_out : now.out ≡ before.out
-  is_in : now.came ≡ before.came
+pub record Stays (before now : Seen) : Type 0 where
+  pub is_out : now.out ≡ before.out
+  pub is_in : now.came ≡ before.came
 
-end-stays : (s : ℕ) (v : Seen) (unsent : List ℕ) (answer : Pulled) → Stays v (fold (after s) v (exchange_end s unsent answer))
+pub end-stays : (s : ℕ) (v : Seen) (unsent : List ℕ) (answer : Pulled) → Stays v (fold (after s) v (exchange_end s unsent answer))
 end-stays s v unsent (pulled.Whole message) = record { is_out = refl; is_in = refl }
 end-stays s v [] pulled.NotYet = rw (itself s) (record { is_out = refl; is_in = refl })
 end-stays s v (x ∷ unsent) pulled.NotYet = rw (itself s) (record { is_out = refl; is_in = refl })

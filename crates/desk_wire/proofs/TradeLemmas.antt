@@ -2,14 +2,16 @@
 use Rattle.std.proofs.Common.{◌≡◌, ◌≢◌, ℕ, true, List, [], ◌∷◌, ◌++◌, refl, sym, ap, ◌∙◌, subst, append_assoc, append-nil, eq-eqb}
 use Rattle.net_link.specs.declared.event.NetEvent.{NetEvent}
 use Rattle.net_link.specs.declared.event.NetEvent.TheVariants as event
-use Rattle.desk_wire.specs.Exchange.{Exchanges, Trades, exchange_end, waiting}
-use Rattle.desk_wire.specs.Made.{Made, bytes_in, bytes_out, is_read, is_turn, is_write}
+use Rattle.desk_wire.specs.Exchange.{Exchanges, MustWait, Trades, exchange_end, waiting}
+use Rattle.desk_wire.specs.Made.{InOrder, Made, bytes_in, bytes_out, is_read, is_turn, is_write}
 use Rattle.desk_wire.specs.Pull.{HandsOut, Pulls, pull_end}
 use Rattle.desk_wire.specs.Push.{Pushes}
 use Rattle.desk_wire.specs.State.{State}
 use Rattle.desk_wire.specs.declared.answers.Pulled.{Pulled}
 use Rattle.desk_wire.specs.declared.answers.Pulled.TheVariants as pulled
 use Rattle.desk_wire.specs.declared.answers.Pushed.TheVariants as pushed
+use Rattle.desk_wire.proofs.OrderLemmas.{InOrder-both, InOrder-none, InOrder-push, InOrder-trans, InOrder-waited}
+use Rattle.desk_wire.proofs.PushLemmas.{nothing_left}
 use Rattle.desk_wire.proofs.MadeLemmas.{Made-joined, Made-none, Made-trans, Made-wider, turn-read, turn-write}
 
 pub Exchanges-none : (tells : Type 0) (w : State) (h : List NetEvent) → Exchanges tells w w h h pulled.Memory
@@ -20,11 +22,8 @@ Exchanges-none tells w h = record {
   behind = λ some. refl;
   gives = sym (append-nil w.held);
   told = λ t. Made-none (is_turn w.stream) h;
+  order = λ t. InOrder-none w.stream w.unsent h;
 }
-
-nothing_left : (sent rest : List ℕ) → sent ++ rest ≡ [] → rest ≡ []
-nothing_left [] rest none = none
-nothing_left (x ∷ sent) rest none = cc
 
 Trades-at : (bytes other : List ℕ) (w : State) (answer : Pulled) → bytes ≡ other → Trades bytes w answer → Trades other w answer
 Trades-at bytes other w answer same trades = subst (λ (l : List ℕ). Trades l w answer) same trades
@@ -44,6 +43,11 @@ Exchanges-trans tells u v w a b c answer at p q = record {
       let later : Made (is_turn u.stream) q.sent q.came (exchange_end u.stream w.unsent answer) b c
       = subst (λ (s : ℕ). Made (is_turn s) q.sent q.came (exchange_end s w.unsent answer) b c) at (q.told t) in
       Made-trans (is_turn u.stream) p.sent p.came q.sent q.came (exchange_end u.stream w.unsent answer) (p.told t) later;
+  order = λ t.
+      let later : InOrder u.stream v.unsent w.unsent (exchange_end u.stream w.unsent answer) b c
+      = subst (λ (s : ℕ). InOrder s v.unsent w.unsent (exchange_end s w.unsent answer) b c) at (q.order t) in
+      InOrder-trans u.stream u.unsent v.unsent w.unsent (exchange_end u.stream w.unsent answer) (λ none. nothing_left p.sent v.unsent (p.joined ∙ none))
+      (λ none. nothing_left q.sent w.unsent (q.joined ∙ none)) (p.order t) later;
 }
 
 waiting-turn : (s : ℕ) (unsent : List ℕ) → is_turn s (waiting s unsent) ≡ true
@@ -68,6 +72,7 @@ Exchanges-waited tells u v a b p = record {
   gives = p.gives.0;
   told = λ t.
       Made-joined (is_turn u.stream) (waiting u.stream v.unsent) p.sent p.came (waiting-turn u.stream v.unsent) (waiting-out u.stream v.unsent) (waiting-in u.stream v.unsent) (p.told t);
+  order = λ t. InOrder-waited u.stream u.unsent v.unsent (λ none. nothing_left p.sent v.unsent (p.joined ∙ none)) (p.order t);
 }
 
 waiting-full : (s : ℕ) (unsent : List ℕ) → unsent ≢ [] → waiting s unsent ≡ event.Full s
@@ -84,6 +89,7 @@ Exchanges-full tells u v a b same some p = record {
   behind = λ _. refl;
   gives = (same ∙ sym (append-nil u.held), λ none. absurd (some none));
   told = λ t. rw (waiting-full u.stream v.unsent some) (Made-wider (is_write u.stream) (is_turn u.stream) (turn-write u.stream) (p.told t));
+  order = λ t. rw (waiting-full u.stream v.unsent some) (InOrder-push u.stream u.unsent v.unsent p.sent (event.Full u.stream ∷ []) (p.told t) (p.idle t));
 }
 
 pub Exchanges-fault : (tells : Type 0) (u v : State) (a b : List NetEvent) → v.held ≡ u.held → v.unsent ≢ [] → Pushes tells u.stream u.unsent v.unsent a b pushed.Fault
@@ -95,6 +101,7 @@ Exchanges-fault tells u v a b same some p = record {
   behind = λ _. refl;
   gives = (same ∙ sym (append-nil u.held), λ none. absurd (some none));
   told = λ t. Made-wider (is_write u.stream) (is_turn u.stream) (turn-write u.stream) (p.told t);
+  order = λ t. InOrder-push u.stream u.unsent v.unsent p.sent (event.Fault u.stream ∷ []) (p.told t) (p.idle t);
 }
 
 pub Exchanges-memory : (tells : Type 0) (u v : State) (a b : List NetEvent) → v.held ≡ u.held → Pushes tells u.stream u.unsent v.unsent a b pushed.Memory
@@ -106,6 +113,7 @@ Exchanges-memory tells u v a b same p = record {
   behind = λ _. refl;
   gives = same ∙ sym (append-nil u.held);
   told = λ t. Made-wider (is_write u.stream) (is_turn u.stream) (turn-write u.stream) (p.told t);
+  order = λ t. InOrder-push u.stream u.unsent v.unsent p.sent [] (p.told t) (p.idle t);
 }
 
 -- What a pull hands out where all is sent.
@@ -117,7 +125,7 @@ Trades-pulled bytes w pulled.Fault none hands = (hands.0, λ _. hands.1)
 Trades-pulled bytes w (pulled.Bad first) none hands = (hands.0, hands.1, none)
 Trades-pulled bytes w pulled.Memory none hands = hands.0
 
-end-pulled : (s : ℕ) (unsent : List ℕ) (answer : Pulled) → unsent ≡ [] → exchange_end s unsent answer ≡ pull_end s answer
+pub end-pulled : (s : ℕ) (unsent : List ℕ) (answer : Pulled) → unsent ≡ [] → exchange_end s unsent answer ≡ pull_end s answer
 end-pulled s unsent (pulled.Whole message) none = refl
 end-pulled s unsent pulled.NotYet none = ap (λ (l : List ℕ). waiting s l ∷ []) none
 end-pulled s unsent pulled.End none = refl
@@ -147,4 +155,18 @@ Exchanges-pulled tells u v w a b c inbox_before inbox_now ended answer at same a
           let last : Made (is_turn u.stream) p.sent q.came (pull_end u.stream answer) a c
           = subst (λ (l : List ℕ). Made (is_turn u.stream) l q.came (pull_end u.stream answer) a c) (append-nil p.sent) both in
           subst (λ (l : List NetEvent). Made (is_turn u.stream) p.sent q.came l a c) (sym (end-pulled u.stream w.unsent answer none)) last;
+      order = λ t.
+          let reads : Made (is_read u.stream) [] q.came (pull_end u.stream answer) b c
+          = subst (λ (s : ℕ). Made (is_read s) [] q.came (pull_end s answer) b c) at (q.told t) in
+          let both : InOrder u.stream u.unsent w.unsent (pull_end u.stream answer) a c
+          = InOrder-both u.stream u.unsent w.unsent p.sent q.came (pull_end u.stream answer) none (p.told t) (p.idle t) reads in
+          subst (λ (l : List NetEvent). InOrder u.stream u.unsent w.unsent l a c) (sym (end-pulled u.stream w.unsent answer none)) both;
     }
+
+-- Why a turn had to wait: a push that did not send all, and a pull behind one that did.
+pub MustWait-full : (unsent : List ℕ) (full : Type 0) (inbox : List ℕ) (ended : Type 0) → unsent ≢ [] → full → MustWait unsent full inbox ended
+MustWait-full [] full inbox ended some is_full = absurd (some refl)
+MustWait-full (x ∷ unsent) full inbox ended some is_full = is_full
+
+pub MustWait-dry : (unsent : List ℕ) (full : Type 0) (inbox : List ℕ) (ended : Type 0) → unsent ≡ [] → (inbox ≡ []) × ¬ ended → MustWait unsent full inbox ended
+MustWait-dry unsent full inbox ended none dry = subst (λ (l : List ℕ). MustWait l full inbox ended) (sym none) dry

@@ -4,7 +4,7 @@ use Rattle.net_link.specs.declared.event.NetEvent.{NetEvent}
 use Rattle.net_link.specs.declared.event.NetEvent.TheVariants as event
 use Rattle.msg_wire.specs.Framing.{Framed}
 use Rattle.desk_wire.specs.Fronts.{IsFront, IsRefused}
-use Rattle.desk_wire.specs.Made.{Made, is_turn}
+use Rattle.desk_wire.specs.Made.{InOrder, Made, is_turn}
 use Rattle.desk_wire.specs.State.{State}
 use Rattle.desk_wire.specs.declared.answers.Pulled.{Pulled}
 use Rattle.desk_wire.specs.declared.answers.Pulled.TheVariants as pulled
@@ -45,7 +45,7 @@ Trades bytes new (pulled.Bad first) = (new.held ≡ bytes) × IsRefused new.held
 Trades bytes new pulled.Memory = new.held ≡ bytes
 
 -- The front of what was unsent was sent, in order; bytes came only behind all of it; and what was asked of the net was
--- no more than that.
+-- no more than that, all writes before all reads.
 pub record Exchanges (tells : Type 0) (before now : State) (old new : List NetEvent) (answer : Pulled) : Type 0 where
   pub sent : List ℕ
   pub came : List ℕ
@@ -53,6 +53,13 @@ pub record Exchanges (tells : Type 0) (before now : State) (old new : List NetEv
   pub behind : now.unsent ≢ [] → came ≡ []
   pub gives : Trades (before.held ++ came) now answer
   pub told : tells → Made (is_turn before.stream) sent came (exchange_end before.stream now.unsent answer) old new
+  pub order : tells → InOrder before.stream before.unsent now.unsent (exchange_end before.stream now.unsent answer) old new
+
+-- Why a turn had to wait: where all is sent, nothing lies in the inbox and the peer has not ended; else the out-buffer
+-- is full.
+abbrev pub MustWait : List ℕ → Type 0 → List ℕ → Type 0 → Type 0
+MustWait [] full inbox ended = (inbox ≡ []) × ¬ ended
+MustWait (byte ∷ unsent) full inbox ended = full
 
 -- Where an exchange was late, the clock showed that moment, which is at or past the limit.
 -- own: a limit at the greatest moment that there is stands for none, since a clock may stand still there.

@@ -1,5 +1,6 @@
 pub mod Exchange
 pub mod Fronts
+pub mod Gains
 pub mod Made
 pub mod Messages
 pub mod Pull

@@ -1,11 +1,10 @@
 ghost use Rattle.std.specs.Prelude.{◌≡◌, ◌<◌, ◌≤◌, ◌-◌, ◌^◌, false, IfSome};
 ghost use Rattle.net_link.specs.Causes.{HasCause};
-ghost use Rattle.net_link.specs.Streams.{KeepsOpen, StaysEnded};
-ghost use Rattle.net_link.specs.Inbox.{ArrivesBut};
+ghost use Rattle.net_link.specs.Keeps.{Keeps, all_but_inbox_of};
 ghost use Rattle.desk_wire.specs.Pull.{pull_shuts};
 ghost use Rattle.desk_wire.specs.Exchange.{Exchanges, IfLate, last_answer};
 
-use crate::{Pulled, Pushed, Wire};
+use crate::{Pulled, Wire};
 use msg_wire::{Message, MsgFault};
 use net_link::{Clock, Net};
 use std::alloc::Global;
@@ -51,13 +50,10 @@ pub fn exchange<R: Wait, N: Net, C: Clock>(
     ensures late { IfLate C.shows limit result }
     ensures cause { HasCause (N.faults net.old) (N.faults net.new) (result ≡ Exchanged.Fault) }
 
-    ensures opens { KeepsOpen (N.is_open net.old) (N.is_open net.new) }
-    ensures numbers { N.next net.old ≤ N.next net.new }
-    ensures arrives { N.tells → ArrivesBut wire.old.stream (N.is_open net.old) (N.inbox net.old) (N.inbox net.new) }
-    ensures stays_ended { N.tells → StaysEnded (N.has_ended net.old) (N.has_ended net.new) }
+    ensures keeps { Keeps (all_but_inbox_of wire.old.stream) N.tells N.is_open N.next N.inbox N.has_ended net.old net.new }
 {
     'exchanging: for _ in rt.forever() {
-        match turn(alloc, net, wire) {
+        match wire.turn(alloc, net) {
             Pulled::Whole(message) => return Exchanged::Whole(message),
             Pulled::NotYet => {
                 if let Some(moment) = late_or_rest(clock, limit) {
@@ -71,27 +67,6 @@ pub fn exchange<R: Wait, N: Net, C: Clock>(
         }
     }
     unreachable!()
-}
-
-/// One push, and one pull where all is sent.
-fn turn<N: Net>(alloc: Global, net: &mut N, wire: &mut Wire) -> Pulled
-    requires live { wire.old.is_shut ≡ false }
-    requires is_open { N.is_open net.old wire.old.stream }
-
-    ensures kept { wire.new ≡ record wire.old { unsent = wire.new.unsent; held = wire.new.held; is_shut = pull_shuts result } }
-    ensures trades { Exchanges N.tells wire.old wire.new (N.history net.old) (N.history net.new) result }
-    ensures cause { HasCause (N.faults net.old) (N.faults net.new) (result ≡ Pulled.Fault) }
-    ensures opens { KeepsOpen (N.is_open net.old) (N.is_open net.new) }
-    ensures numbers { N.next net.old ≤ N.next net.new }
-    ensures arrives { N.tells → ArrivesBut wire.old.stream (N.is_open net.old) (N.inbox net.old) (N.inbox net.new) }
-    ensures stays_ended { N.tells → StaysEnded (N.has_ended net.old) (N.has_ended net.new) }
-{
-    match wire.push(net) {
-        Pushed::Done => wire.pull(alloc, net),
-        Pushed::NotYet => Pulled::NotYet,
-        Pushed::Fault => Pulled::Fault,
-        Pushed::Memory => Pulled::Memory,
-    }
 }
 
 /// The moment, where it is at or past the limit; else rests.

@@ -22,12 +22,11 @@
 
 mod answers;
 mod exchanging;
-mod laws;
+pub mod laws;
 #[cfg(test)]
 mod tests;
 mod wire;
 
 pub use answers::{Pulled, Pushed};
 pub use exchanging::{Exchanged, exchange};
-pub use laws::{front_asks_on, parted_once, pulls_in_order, sends_in_order};
 pub use wire::Wire;

@@ -2,10 +2,11 @@ ghost use Rattle.std.specs.Prelude.{◌≡◌, ◌<◌, ◌≤◌, ◌+◌, ◌-
 ghost use Rattle.net_link.specs.Causes.{HasCause};
 ghost use Rattle.net_link.specs.Events.{Adds};
 ghost use Rattle.net_link.specs.Calls.{write_events, read_events, TakesWithin};
-ghost use Rattle.net_link.specs.Streams.{KeepsOpen, StaysEnded};
-ghost use Rattle.net_link.specs.Inbox.{Arrives, ArrivesBut, ReadsInbox};
+ghost use Rattle.net_link.specs.Inbox.{ReadsInbox};
+ghost use Rattle.net_link.specs.Keeps.{Keeps, all, all_but_inbox_of};
 ghost use Rattle.net_link.specs.Turns.{added, AddsUpTo};
 ghost use Rattle.msg_wire.specs.Reading.{flaw};
+ghost use Rattle.desk_wire.specs.Exchange.{Exchanges, MustWait};
 ghost use Rattle.desk_wire.specs.Push.{push_shuts, Pushes};
 ghost use Rattle.desk_wire.specs.Pull.{pull_shuts, Pulls};
 ghost use Rattle.desk_wire.specs.State.{opened};
@@ -92,11 +93,8 @@ impl Wire {
         ensures done { (result ≡ Pushed.Done) ↔ (self.new.unsent ≡ []) }
         ensures cause { HasCause (N.faults net.old) (N.faults net.new) (result ≡ Pushed.Fault) }
 
-        ensures opens { KeepsOpen (N.is_open net.old) (N.is_open net.new) }
-        ensures numbers { N.next net.old ≤ N.next net.new }
+        ensures keeps { Keeps all N.tells N.is_open N.next N.inbox N.has_ended net.old net.new }
         ensures full { N.tells → result ≡ Pushed.NotYet → N.is_full net.new self.old.stream }
-        ensures arrives { N.tells → Arrives (N.is_open net.old) (N.inbox net.old) (N.inbox net.new) }
-        ensures stays_ended { N.tells → StaysEnded (N.has_ended net.old) (N.has_ended net.new) }
     {
         'pushing: while self.has_unsent() {
             match self.push_some(net) {
@@ -119,10 +117,7 @@ impl Wire {
             (N.inbox net.old self.old.stream) (N.inbox net.new self.old.stream) (N.has_ended net.new self.old.stream) result }
         ensures cause { HasCause (N.faults net.old) (N.faults net.new) (result ≡ Pulled.Fault) }
 
-        ensures opens { KeepsOpen (N.is_open net.old) (N.is_open net.new) }
-        ensures numbers { N.next net.old ≤ N.next net.new }
-        ensures arrives { N.tells → ArrivesBut self.old.stream (N.is_open net.old) (N.inbox net.old) (N.inbox net.new) }
-        ensures stays_ended { N.tells → StaysEnded (N.has_ended net.old) (N.has_ended net.new) }
+        ensures keeps { Keeps (all_but_inbox_of self.old.stream) N.tells N.is_open N.next N.inbox N.has_ended net.old net.new }
     {
         'pulling: loop {
             match self.judge(alloc) {
@@ -137,6 +132,27 @@ impl Wire {
                 Judged::Bad(fault) => return Pulled::Bad(fault),
                 Judged::Memory => return Pulled::Memory,
             }
+        }
+    }
+
+    /// One push, and one pull where all is sent: what a caller does who waits for the next message by means of its own.
+    pub fn turn<N: Net>(&mut self, alloc: Global, net: &mut N) -> Pulled
+        requires live { self.old.is_shut ≡ false }
+        requires is_open { N.is_open net.old self.old.stream }
+
+        ensures kept { self.new ≡ record self.old { unsent = self.new.unsent; held = self.new.held; is_shut = pull_shuts result } }
+        ensures trades { Exchanges N.tells self.old self.new (N.history net.old) (N.history net.new) result }
+        ensures cause { HasCause (N.faults net.old) (N.faults net.new) (result ≡ Pulled.Fault) }
+
+        ensures keeps { Keeps (all_but_inbox_of self.old.stream) N.tells N.is_open N.next N.inbox N.has_ended net.old net.new }
+        ensures waits { N.tells → result ≡ Pulled.NotYet
+            → MustWait self.new.unsent (N.is_full net.new self.old.stream) (N.inbox net.new self.old.stream) (N.has_ended net.new self.old.stream) }
+    {
+        match self.push(net) {
+            Pushed::Done => self.pull(alloc, net),
+            Pushed::NotYet => Pulled::NotYet,
+            Pushed::Fault => Pulled::Fault,
+            Pushed::Memory => Pulled::Memory,
         }
     }
 
@@ -155,12 +171,9 @@ impl Wire {
         ensures after { self.new ≡ after_write self.old result }
         ensures within { TakesWithin self.old.unsent result }
         ensures cause { HasCause (N.faults net.old) (N.faults net.new) (result ≡ Wrote.Failed) }
-        ensures opens { KeepsOpen (N.is_open net.old) (N.is_open net.new) }
-        ensures numbers { N.next net.old ≤ N.next net.new }
+        ensures keeps { Keeps all N.tells N.is_open N.next N.inbox N.has_ended net.old net.new }
         ensures told { N.tells → Adds (write_events self.old.stream self.old.unsent result) (N.history net.old) (N.history net.new) }
         ensures full { N.tells → result ≡ Wrote.NotYet → N.is_full net.new self.old.stream }
-        ensures arrives { N.tells → Arrives (N.is_open net.old) (N.inbox net.old) (N.inbox net.new) }
-        ensures stays_ended { N.tells → StaysEnded (N.has_ended net.old) (N.has_ended net.new) }
     {
         match send_some(net, self.stream, self.queued.as_slice(), self.sent) {
             Wrote::Took(count) => {
@@ -185,12 +198,9 @@ impl Wire {
         ensures grows { self.new.held ≡ self.old.held ++ added self.old.held self.new.held }
         ensures within { AddsUpTo (need - length self.old.held) (added self.old.held self.new.held) result }
         ensures cause { HasCause (N.faults net.old) (N.faults net.new) (result ≡ Came.Failed) }
-        ensures opens { KeepsOpen (N.is_open net.old) (N.is_open net.new) }
-        ensures numbers { N.next net.old ≤ N.next net.new }
+        ensures keeps { Keeps (all_but_inbox_of self.old.stream) N.tells N.is_open N.next N.inbox N.has_ended net.old net.new }
         ensures told { N.tells → Adds (read_events self.old.stream (added self.old.held self.new.held) result) (N.history net.old) (N.history net.new) }
         ensures inbox { N.tells → ReadsInbox (N.inbox net.old self.old.stream) (N.inbox net.new self.old.stream) (N.has_ended net.new self.old.stream) (added self.old.held self.new.held) result }
-        ensures arrives { N.tells → ArrivesBut self.old.stream (N.is_open net.old) (N.inbox net.old) (N.inbox net.new) }
-        ensures stays_ended { N.tells → StaysEnded (N.has_ended net.old) (N.has_ended net.new) }
     {
         let want = need - self.held.len();
         match receive_some(net, self.stream, &mut self.held, want) {

@@ -1,20 +1,24 @@
+use crate::socket_watch::SocketWatch;
 use net_link::Clock;
+use std::sync::Wait;
 use std::time;
 use std::time::Duration;
 
 /// The machine's clock, which never goes back. Its moments count from a start of the machine's own.
 #[derive(Drop)]
-pub struct MachineClock<'a, R: time::Clock> {
+pub struct MachineClock<'a, R: time::Clock + Wait> {
     rt: &'a R,
+    watch: &'a SocketWatch,
 }
 
-impl<'a, R: time::Clock> MachineClock<'a, R> {
-    pub fn new(rt: &'a R) -> MachineClock<'a, R> {
-        MachineClock { rt }
+impl<'a, R: time::Clock + Wait> MachineClock<'a, R> {
+    /// A clock whose rests end early when a watched socket is ready.
+    pub fn new(rt: &'a R, watch: &'a SocketWatch) -> MachineClock<'a, R> {
+        MachineClock { rt, watch }
     }
 }
 
-impl<'a, R: time::Clock> Clock for MachineClock<'a, R> {
+impl<'a, R: time::Clock + Wait> Clock for MachineClock<'a, R> {
     ghost shows = { λ _. Unit {0} };
 
     /// The moment in microseconds, 0 where the machine tells none.
@@ -25,7 +29,8 @@ impl<'a, R: time::Clock> Clock for MachineClock<'a, R> {
         }
     }
 
+    /// Gives control back as soon as one of the run's sockets is ready, at the latest after the time given.
     fn rest(&self, micros: u64) {
-        self.rt.sleep(Duration::from_micros(micros));
+        self.watch.rest(self.rt, Duration::from_micros(micros));
     }
 }

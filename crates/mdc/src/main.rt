@@ -4,7 +4,7 @@
 //! sends it as one message (MongoDB wire protocol, OP_MSG), reads one reply and prints a line a command and their count.
 //! [`shell_top::run`] is the top call, over any source, sink, net and clock; its contract says what a run does. [`main`]
 //! makes the real objects, which are the trusted edge: the standard input and output, a net of sockets, the machine's
-//! clock.
+//! clock. The net and the clock share a [`socket_watch::SocketWatch`], so that a rest ends when a socket is ready.
 //!
 //! It ends with the status of the run: 0 where every line is ok, 1 where some line is not, 2 where the words are refused,
 //! 3 where the script is, 4 where the script could not be read, 5 where the report could not be written, 6 where memory
@@ -13,13 +13,17 @@
 
 mod machine_clock;
 mod socket_net;
+mod socket_watch;
 mod standard_input;
 mod standard_output;
+#[cfg(test)]
+mod tests;
 
 use bson_doc::{Rows, Text};
 use machine_clock::MachineClock;
 use shell_top::{Status, UseFault, run};
 use socket_net::SocketNet;
+use socket_watch::SocketWatch;
 use standard_input::StandardInput;
 use standard_output::StandardOutput;
 use std::io::{ErrorKind, Input};
@@ -31,8 +35,9 @@ fn main(rt: HostRuntime) -> ExitCode {
         Ok(words) => {
             let mut script = StandardInput::new(rt.reader());
             let mut out = StandardOutput::new(&rt);
-            let net = SocketNet::new(rt.alloc(), &rt);
-            let clock = MachineClock::new(&rt);
+            let watch = SocketWatch::new(rt.alloc(), &rt);
+            let net = SocketNet::new(rt.alloc(), &rt, &watch);
+            let clock = MachineClock::new(&rt, &watch);
             let ended = run(&rt, rt.alloc(), &words, &mut script, &mut out, net, &clock);
             ended.status
         }

@@ -1,6 +1,7 @@
 ghost use Rattle.std.specs.Prelude.{◌≡◌, ◌<◌, ◌≤◌, []};
-ghost use Rattle.net_link.specs.Causes.{Rose};
+ghost use Rattle.net_link.specs.Causes.{Rose, count_of, count_of-below};
 
+use crate::socket_watch::SocketWatch;
 use mio::net::TcpStream;
 use net_link::{Came, Dialed, Net, Wrote};
 use std::alloc::Global;
@@ -8,13 +9,15 @@ use std::io;
 use std::io::{ErrorKind, Read, Write};
 use std::net::{Net as Sockets, SocketAddr, ToSocketAddrs};
 
-/// A net of non-blocking sockets. It tells nothing.
+/// A net of non-blocking sockets, which send at once what they are given (TCP_NODELAY). It tells nothing.
 ///
 /// A dial begins a connection, and until that stands `write` and `read` answer `NotYet`. An address in digits is not
-/// looked up; a host's name is, and the lookup may wait.
+/// looked up; a host's name is, and the lookup may wait. Rests of the clock that has the same watch end when one of its
+/// sockets is ready.
 #[derive(Drop)]
 pub struct SocketNet<'a, H: Sockets> {
     handle: &'a H,
+    watch: &'a SocketWatch,
     lines: Vec<Line>,
     next: u64,
     faults: u64,
@@ -28,9 +31,10 @@ struct Line {
 }
 
 impl<'a, H: Sockets> SocketNet<'a, H> {
-    pub fn new(alloc: Global, handle: &'a H) -> SocketNet<'a, H> {
+    pub fn new(alloc: Global, handle: &'a H, watch: &'a SocketWatch) -> SocketNet<'a, H> {
         SocketNet {
             handle,
+            watch,
             lines: Vec::new(alloc),
             next: 0,
             faults: 0,
@@ -39,8 +43,8 @@ impl<'a, H: Sockets> SocketNet<'a, H> {
 
     /// Counts a fault.
     fn fail(&mut self)
-        ensures later { self.old.faults ≤ self.new.faults }
-        ensures rose { Rose self.old.faults self.new.faults }
+        ensures later { count_of self.old.faults ≤ count_of self.new.faults }
+        ensures rose { Rose (count_of self.old.faults) (count_of self.new.faults) }
         ensures next { self.new.next ≡ self.old.next }
     {
         self.faults = self.faults.saturating_add(1);
@@ -52,10 +56,14 @@ impl<'a, H: Sockets> SocketNet<'a, H> {
             Ok(digits) => Some(digits),
             Err(_) => address.to_socket_addrs(self.handle)?.next(),
         };
-        match found {
-            Some(address) => TcpStream::connect(self.handle, address),
-            None => Err(io::Error::from(ErrorKind::NotFound)),
-        }
+        let Some(address) = found else {
+            return Err(io::Error::from(ErrorKind::NotFound));
+        };
+        let mut socket = TcpStream::connect(self.handle, address)?;
+        // A socket that gathers small pieces all the same is slower, no more.
+        let _ = socket.set_nodelay(true);
+        self.watch.watch(&mut socket);
+        Ok(socket)
     }
 }
 
@@ -76,8 +84,13 @@ fn is_not_yet(error: &io::Error) -> bool {
     )
 }
 
+/// Memory was wanting, here or in the system.
+fn is_memory(error: &io::Error) -> bool {
+    error.kind() == ErrorKind::OutOfMemory
+}
+
 impl<'a, H: Sockets> Net for SocketNet<'a, H> {
-    ghost faults = { λ s. s.faults };
+    ghost faults = { λ s. count_of s.faults };
 
     ghost is_open = { λ s t. t < s.next };
 
@@ -93,12 +106,18 @@ impl<'a, H: Sockets> Net for SocketNet<'a, H> {
 
     ghost is_full = { λ _ _. ⊥ };
 
+    ghost counts = { λ s. count_of-below s.faults };
+
     ghost below = { λ _ _ given. given };
 
     fn dial(&mut self, address: &str) -> Dialed {
-        let Ok(socket) = self.connect(address) else {
-            self.fail();
-            return Dialed::Failed;
+        let socket = match self.connect(address) {
+            Ok(socket) => socket,
+            Err(error) if is_memory(&error) => return Dialed::Memory,
+            Err(_) => {
+                self.fail();
+                return Dialed::Failed;
+            }
         };
         let stream = self.next;
         let Some(next) = stream.checked_add(1) else {
@@ -120,10 +139,9 @@ impl<'a, H: Sockets> Net for SocketNet<'a, H> {
         match result {
             Ok(0) => Wrote::NotYet,
             Ok(count) => Wrote::Took(count),
-            Err(error) => {
-                if is_not_yet(&error) {
-                    return Wrote::NotYet;
-                }
+            Err(error) if is_not_yet(&error) => Wrote::NotYet,
+            Err(error) if is_memory(&error) => Wrote::Memory,
+            Err(_) => {
                 self.fail();
                 Wrote::Failed
             }
@@ -138,10 +156,9 @@ impl<'a, H: Sockets> Net for SocketNet<'a, H> {
         match result {
             Ok(0) => Came::End,
             Ok(count) => Came::Got(count),
-            Err(error) => {
-                if is_not_yet(&error) {
-                    return Came::NotYet;
-                }
+            Err(error) if is_not_yet(&error) => Came::NotYet,
+            Err(error) if is_memory(&error) => Came::Memory,
+            Err(_) => {
                 self.fail();
                 Came::Failed
             }

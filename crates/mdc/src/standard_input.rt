@@ -1,4 +1,5 @@
 ghost use Rattle.std.specs.Prelude.{[]};
+ghost use Rattle.net_link.specs.Causes.{count_of, count_of-below};
 
 use net_link::{Source, SourceCame};
 use std::io::Read;
@@ -17,11 +18,13 @@ impl<T: Read + Drop> StandardInput<T> {
 }
 
 impl<T: Read + Drop> Source for StandardInput<T> {
-    ghost faults = { λ s. s.faults };
+    ghost faults = { λ s. count_of s.faults };
 
     ghost tells = { ⊥ };
 
     ghost left = { λ _. [] };
+
+    ghost counts = { λ s. count_of-below s.faults };
 
     fn read(&mut self, into: &mut [u8]) -> SourceCame {
         match self.reader.read(into) {

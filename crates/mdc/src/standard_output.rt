@@ -1,4 +1,5 @@
 ghost use Rattle.std.specs.Prelude.{[]};
+ghost use Rattle.net_link.specs.Causes.{count_of, count_of-below};
 
 use net_link::{Sink, SinkTook};
 
@@ -16,11 +17,13 @@ impl<'a, R: Print> StandardOutput<'a, R> {
 }
 
 impl<'a, R: Print> Sink for StandardOutput<'a, R> {
-    ghost faults = { λ s. s.faults };
+    ghost faults = { λ s. count_of s.faults };
 
     ghost tells = { ⊥ };
 
     ghost written = { λ _. [] };
+
+    ghost counts = { λ s. count_of-below s.faults };
 
     fn write(&mut self, bytes: &[u8]) -> SinkTook {
         match self.rt.write_some(bytes) {

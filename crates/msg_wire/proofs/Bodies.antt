@@ -2,12 +2,12 @@
 use Rattle.std.proofs.Common.{◌≡◌, ◌≢◌, ℕ, List, take, drop, Some, Ok, Err, sym, ap, ◌∙◌}
 use Rattle.std.proofs.lemmas.List.{take-append-drop}
 use Rattle.bson_doc.specs.declared.value.Document.{Document}
-use Rattle.bson_wire.specs.declared.fault.BsonFault.{BsonFault}
-use Rattle.bson_wire.specs.declared.fault.BsonFault.TheVariants as bson_fault
+use Rattle.bson_doc.specs.declared.bson_fault.BsonFault.{BsonFault}
+use Rattle.bson_doc.specs.declared.bson_fault.BsonFault.TheVariants as bson_fault
 use Rattle.bson_wire.specs.Spelling.{Spells}
 use Rattle.bson_wire.specs.Reading.{flaw}
 use Rattle.bson_wire.specs.Reading as documents
-use Rattle.bson_wire.proofs.Outermost.{read_again}
+use Rattle.bson_doc.proofs.wire.Outermost.{read_again}
 use Rattle.msg_wire.specs.Sections.{body_fault, document_at}
 use Rattle.msg_wire.specs.Steps.{Fails}
 use Rattle.msg_wire.specs.declared.fault.MsgFault.TheVariants as fault

@@ -4,7 +4,7 @@ use Rattle.std.proofs.lemmas.List.{append-nil, nil_from_length}
 use Rattle.bson_doc.specs.declared.value.Document.{Document}
 use Rattle.bson_wire.specs.Reading.{flaw}
 use Rattle.bson_wire.specs.Reading as documents
-use Rattle.bson_wire.proofs.Outermost.{read_takes, read_again}
+use Rattle.bson_doc.proofs.wire.Outermost.{read_takes, read_again}
 use Rattle.msg_wire.specs.Framing.{AreDocuments}
 use Rattle.msg_wire.specs.Sections.{document_at, documents_at}
 use Rattle.msg_wire.specs.Steps.{◌>>=◌, Fails}

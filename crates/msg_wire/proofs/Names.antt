@@ -6,7 +6,7 @@ use Rattle.std.proofs.lemmas.Bool.{cond-true, cond-false, false_from_ne_true}
 use Rattle.std.proofs.lemmas.Str.{is_utf8-from_IsUtf8, IsUtf8-from_is_utf8}
 use Rattle.bson_wire.specs.Reading.{until_zero}
 use Rattle.bson_wire.specs.Spelling.{IsName}
-use Rattle.bson_wire.proofs.Texts.{until_zero-Some, until_zero-name}
+use Rattle.bson_doc.proofs.wire.Texts.{until_zero-Some, until_zero-name}
 use Rattle.msg_wire.specs.Sections.{name_at, text_at}
 use Rattle.msg_wire.specs.Steps.{◌>>=◌, or_fault}
 use Rattle.msg_wire.specs.declared.fault.MsgFault.TheVariants as fault

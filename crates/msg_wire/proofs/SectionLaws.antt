@@ -5,7 +5,7 @@ use Rattle.std.proofs.lemmas.Bool.Decides.{nat_tests}
 use Rattle.bson_doc.specs.declared.value.Document.{Document}
 use Rattle.bson_wire.specs.Reading.{flaw}
 use Rattle.bson_wire.specs.Reading as documents
-use Rattle.bson_wire.proofs.Outermost.{read_takes, read_again}
+use Rattle.bson_doc.proofs.wire.Outermost.{read_takes, read_again}
 use Rattle.msg_wire.specs.Framing.{AreSections, AreSequences, IsBody, IsSequence}
 use Rattle.msg_wire.specs.Sections.{Held, closed_at, document_at, section_at, sections_at, sequence_at, with_section}
 use Rattle.msg_wire.specs.Steps.{◌>>=◌}

@@ -5,8 +5,8 @@
 use Rattle.std.specs.Prelude.{ℕ, zero, suc, ◌-◌, Bool, ◌||◌, List, [], ◌∷◌, length, take, drop, Option, Some, is_some, Result, Ok, Err, nat_lt, nat_le, if◌then◌else◌}
 use Rattle.std.specs.Str.{is_utf8}
 use Rattle.bson_doc.specs.declared.value.Document.{Document}
-use Rattle.bson_wire.specs.declared.fault.BsonFault.{BsonFault}
-use Rattle.bson_wire.specs.declared.fault.BsonFault.TheVariants as bson_fault
+use Rattle.bson_doc.specs.declared.bson_fault.BsonFault.{BsonFault}
+use Rattle.bson_doc.specs.declared.bson_fault.BsonFault.TheVariants as bson_fault
 use Rattle.bson_wire.specs.Reading.{until_zero}
 use Rattle.bson_wire.specs.Reading as documents
 use Rattle.msg_wire.specs.Fields.{number_at}

@@ -1,6 +1,6 @@
 -- The steps of a reading, one after another, and what a call that reads answers.
 use Rattle.std.specs.Prelude.{◌≡◌, ◌≢◌, List, ℕ, Option, Some, None, Result, Ok, Err}
-use Rattle.bson_wire.specs.declared.fault.BsonFault.TheVariants as bson_fault
+use Rattle.bson_doc.specs.declared.bson_fault.BsonFault.TheVariants as bson_fault
 use Rattle.msg_wire.specs.declared.fault.MsgFault.{MsgFault}
 use Rattle.msg_wire.specs.declared.fault.MsgFault.TheVariants as fault
 

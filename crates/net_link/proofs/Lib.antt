@@ -3,5 +3,7 @@ pub mod PrefixLemmas
 pub mod EventLemmas
 pub mod SeenLemmas
 pub mod ScriptLemmas
-pub mod TurnLemmas
+pub mod KeepsLemmas
+pub mod OnlyLemmas
+pub mod GainLemmas
 mod Worked

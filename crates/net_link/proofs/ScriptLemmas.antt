@@ -1,13 +1,14 @@
 -- The streams of a scripted net behind a dial, a read and a close.
-use Rattle.std.proofs.Common.{◌≡◌, ℕ, zero, suc, ◌+◌, ◌<◌, ◌≤◌, true, false, cond, List, [], ◌∷◌, ◌++◌, length, map, take, drop, set, get_or, refl, ap, sym, ◌∙◌, eqb, ne_eqb, arith}
+use Rattle.std.proofs.Common.{◌≡◌, ℕ, zero, suc, ◌+◌, ◌<◌, ◌≤◌, true, false, cond, List, [], ◌∷◌, ◌++◌, length, map, take, drop, set, get_or, refl, ap, sym, ◌∙◌, eqb, ne_eqb, arith, length-append}
 use Rattle.std.proofs.lemmas.List.{get_or-set_same, get_or-set_other, get_or_append_left, length-set, length-take, length-take-le, length_push, nil_from_length, get_or_read, take-append-drop, take_min}
 use Rattle.std.proofs.lemmas.List.Elements.{All-push}
-use Rattle.net_link.specs.Events.{IsFresh, is_at}
-use Rattle.net_link.specs.Calls.{IfStream, IsNewStream}
+use Rattle.net_link.specs.Events.{Adds, IsFresh, is_at}
+use Rattle.net_link.specs.Calls.{IfStream, IsNewStream, read_events}
 use Rattle.net_link.specs.Inbox.{Arrives, ArrivesBut, ReadsInbox}
+use Rattle.net_link.specs.Keeps.{all, all_but, all_but_inbox_of}
 use Rattle.net_link.specs.Streams.{KeepsOpen, KeepsOpenBut, StaysEnded}
 use Rattle.net_link.specs.Told.{Told}
-use Rattle.net_link.specs.Script.{Script, Line, gone, opened, shut, skipped, line_at, piece_size, IsLive, Ends, unread, live_count, IsLive-below, IsSound, IsGiven, dial_state, read_state}
+use Rattle.net_link.specs.Script.{Script, Line, gone, opened, shut, skipped, line_at, piece_size, IsLive, Ends, unread, live_count, IsLive-below, IsSound, IsGiven, ScriptKeeps, close_state, dial_state, read_state}
 use Rattle.net_link.specs.declared.event.NetEvent.{NetEvent}
 use Rattle.net_link.specs.declared.event.NetEvent.TheVariants as event
 use Rattle.net_link.specs.declared.net.Came.{Came}
@@ -15,6 +16,7 @@ use Rattle.net_link.specs.declared.net.Came.TheVariants as came
 use Rattle.net_link.specs.declared.net.Dialed.{Dialed}
 use Rattle.net_link.specs.declared.net.Dialed.TheVariants as dialed
 use Rattle.net_link.specs.declared.stream_plan.StreamPlan.{StreamPlan}
+use Rattle.net_link.proofs.EventLemmas.{Adds-none, Adds-one}
 use Rattle.net_link.proofs.PrefixLemmas.{IsPrefixOf-same, IsPrefixOf-from_eq}
 
 -- What a line in the place of another keeps of it, each place keeps.
@@ -150,20 +152,25 @@ pub live_count-positive : (lines : List Line) (t : ℕ) → IsLive lines t → 0
 live_count-positive lines t live = omega (arith, live_count-shut lines t live)
 
 -- What the trait says of the streams behind a dial and a read, by the state that they leave.
-pub KeepsOpen-dial : (address : List ℕ) (answer : Dialed) (s : Script) → KeepsOpen (IsLive s.lines) (IsLive (dial_state address answer s).lines)
+KeepsOpen-dial : (address : List ℕ) (answer : Dialed) (s : Script) → KeepsOpen (IsLive s.lines) (IsLive (dial_state address answer s).lines)
 KeepsOpen-dial address (dialed.Stream t) s = KeepsOpen-append s.lines (map opened (take 1 s.plans))
 KeepsOpen-dial address dialed.Failed s = λ u live. live
 KeepsOpen-dial address dialed.Memory s = λ u live. live
 
-pub StaysEnded-dial : (address : List ℕ) (answer : Dialed) (s : Script) → StaysEnded (Ends s.lines) (Ends (dial_state address answer s).lines)
+StaysEnded-dial : (address : List ℕ) (answer : Dialed) (s : Script) → StaysEnded (Ends s.lines) (Ends (dial_state address answer s).lines)
 StaysEnded-dial address (dialed.Stream t) s = StaysEnded-append s.lines (map opened (take 1 s.plans))
 StaysEnded-dial address dialed.Failed s = λ u ends. ends
 StaysEnded-dial address dialed.Memory s = λ u ends. ends
 
-pub Arrives-dial : (address : List ℕ) (answer : Dialed) (s : Script) → Arrives (IsLive s.lines) (unread s.lines) (unread (dial_state address answer s).lines)
+Arrives-dial : (address : List ℕ) (answer : Dialed) (s : Script) → Arrives (IsLive s.lines) (unread s.lines) (unread (dial_state address answer s).lines)
 Arrives-dial address (dialed.Stream t) s = Arrives-append s.lines (map opened (take 1 s.plans))
 Arrives-dial address dialed.Failed s = Arrives-same s.lines
 Arrives-dial address dialed.Memory s = Arrives-same s.lines
+
+numbers-dial : (address : List ℕ) (answer : Dialed) (s : Script) → length s.lines ≤ length (dial_state address answer s).lines
+numbers-dial address (dialed.Stream t) s = omega (arith, length-append s.lines (map opened (take 1 s.plans)))
+numbers-dial address dialed.Failed s = omega arith
+numbers-dial address dialed.Memory s = omega arith
 
 IsNewStream-opened : (t : ℕ) (lines : List Line) (plans : List StreamPlan) → 0 < length plans → t ≡ length lines
     → IsNewStream (length lines) (length (lines ++ map opened (take 1 plans))) (IsLive (lines ++ map opened (take 1 plans))) t
@@ -178,26 +185,66 @@ IsNewStream-dial address (dialed.Stream t) s some number = IsNewStream-opened t 
 IsNewStream-dial address dialed.Failed s some number = tt
 IsNewStream-dial address dialed.Memory s some number = tt
 
-pub KeepsOpen-read : (t : ℕ) (into : List ℕ) (answer : Came) (s : Script) → KeepsOpen (IsLive s.lines) (IsLive (read_state t into answer s).lines)
+KeepsOpen-read : (t : ℕ) (into : List ℕ) (answer : Came) (s : Script) → KeepsOpen (IsLive s.lines) (IsLive (read_state t into answer s).lines)
 KeepsOpen-read t into (came.Got n) s = KeepsOpen-skipped s.lines t n
 KeepsOpen-read t into came.NotYet s = λ u live. live
 KeepsOpen-read t into came.End s = λ u live. live
 KeepsOpen-read t into came.Failed s = λ u live. live
 KeepsOpen-read t into came.Memory s = λ u live. live
 
-pub StaysEnded-read : (t : ℕ) (into : List ℕ) (answer : Came) (s : Script) → StaysEnded (Ends s.lines) (Ends (read_state t into answer s).lines)
+StaysEnded-read : (t : ℕ) (into : List ℕ) (answer : Came) (s : Script) → StaysEnded (Ends s.lines) (Ends (read_state t into answer s).lines)
 StaysEnded-read t into (came.Got n) s = StaysEnded-skipped s.lines t n
 StaysEnded-read t into came.NotYet s = λ u ends. ends
 StaysEnded-read t into came.End s = λ u ends. ends
 StaysEnded-read t into came.Failed s = λ u ends. ends
 StaysEnded-read t into came.Memory s = λ u ends. ends
 
-pub ArrivesBut-read : (t : ℕ) (into : List ℕ) (answer : Came) (s : Script) → ArrivesBut t (IsLive s.lines) (unread s.lines) (unread (read_state t into answer s).lines)
+numbers-read : (t : ℕ) (into : List ℕ) (answer : Came) (s : Script) → length s.lines ≤ length (read_state t into answer s).lines
+numbers-read t into (came.Got n) s = omega (arith, length-set s.lines t (skipped n (line_at s.lines t)))
+numbers-read t into came.NotYet s = omega arith
+numbers-read t into came.End s = omega arith
+numbers-read t into came.Failed s = omega arith
+numbers-read t into came.Memory s = omega arith
+
+ArrivesBut-read : (t : ℕ) (into : List ℕ) (answer : Came) (s : Script) → ArrivesBut t (IsLive s.lines) (unread s.lines) (unread (read_state t into answer s).lines)
 ArrivesBut-read t into (came.Got n) s = ArrivesBut-set s.lines t (skipped n (line_at s.lines t))
 ArrivesBut-read t into came.NotYet s = λ u other. Arrives-same s.lines u
 ArrivesBut-read t into came.End s = λ u other. Arrives-same s.lines u
 ArrivesBut-read t into came.Failed s = λ u other. Arrives-same s.lines u
 ArrivesBut-read t into came.Memory s = λ u other. Arrives-same s.lines u
+
+-- The same as one fact.
+pub Keeps-dial : (address : List ℕ) (answer : Dialed) (s : Script) → ScriptKeeps all s (dial_state address answer s)
+Keeps-dial address answer s = record {
+  opens = KeepsOpen-dial address answer s;
+  numbers = numbers-dial address answer s;
+  arrives = λ _. Arrives-dial address answer s;
+  stays_ended = λ _. StaysEnded-dial address answer s;
+}
+
+pub Keeps-read : (t : ℕ) (into : List ℕ) (answer : Came) (s : Script) → ScriptKeeps (all_but_inbox_of t) s (read_state t into answer s)
+Keeps-read t into answer s = record {
+  opens = KeepsOpen-read t into answer s;
+  numbers = numbers-read t into answer s;
+  arrives = λ _. ArrivesBut-read t into answer s;
+  stays_ended = λ _. StaysEnded-read t into answer s;
+}
+
+pub Keeps-shut : (t : ℕ) (s z : Script) → z.lines ≡ set s.lines t (shut (line_at s.lines t)) → ScriptKeeps (all_but t) s z
+Keeps-shut t s z is = record {
+  opens = rw is (KeepsOpenBut-set s.lines t (shut (line_at s.lines t)));
+  numbers = omega (arith, ap length is, length-set s.lines t (shut (line_at s.lines t)));
+  arrives = λ _. rw is (ArrivesBut-set s.lines t (shut (line_at s.lines t)));
+  stays_ended = λ _. rw is (StaysEnded-shut s.lines t);
+}
+
+-- A read's events stand behind those that were.
+pub Adds-read : (t : ℕ) (into : List ℕ) (answer : Came) (s : Script) → Adds (read_events t into answer) s.events (read_state t into answer s).events
+Adds-read t into (came.Got n) s = Adds-one s.events (event.Came t (take n into)) refl
+Adds-read t into came.NotYet s = Adds-one s.events (event.Dry t) refl
+Adds-read t into came.End s = Adds-one s.events (event.Ended t) refl
+Adds-read t into came.Failed s = Adds-one s.events (event.Fault t) refl
+Adds-read t into came.Memory s = Adds-none s.events
 
 pub ReadsInbox-given : (t : ℕ) (bytes into : List ℕ) (answer : Came) (s : Script) → t < length s.lines → bytes ≡ take (length bytes) (line_at s.lines t).left
     → IsGiven bytes into answer

@@ -41,7 +41,7 @@ seen-Adds s {events = events} {old = old} {new = new} adds =
     ∙ fold-append (after s) unseen (filter is_call old) events
     ∙ ap (λ v. fold (after s) v events) (sym (fold-after-filter s old unseen))
 
-fold-fresh : (s : ℕ) (h : List NetEvent) (v : Seen) → IsFresh s h → fold (after s) v h ≡ v
+pub fold-fresh : (s : ℕ) (h : List NetEvent) (v : Seen) → IsFresh s h → fold (after s) v h ≡ v
 fold-fresh s [] v fresh = refl
 fold-fresh s (e ∷ h) v fresh =
     let here : is_at e s ≡ false = All-head (λ x. is_at x s ≡ false) e h fresh in

@@ -1,5 +1,5 @@
 -- The events of a net's history, and what a call adds to it.
-use Rattle.std.specs.Prelude.{◌≡◌, ◌==◌, ℕ, Bool, true, false, List, ◌++◌, All, filter}
+use Rattle.std.specs.Prelude.{◌≡◌, ◌==◌, ℕ, Bool, true, false, List, [], ◌∷◌, ◌++◌, All, filter}
 use Rattle.net_link.specs.Prefix.{IsPrefixOf}
 use Rattle.net_link.specs.declared.event.NetEvent.{NetEvent}
 use Rattle.net_link.specs.declared.event.NetEvent.TheVariants.{Dialled, NoDial, Out, Came, Ended, Fault, Closed, Dry, Full, Handled, Elected, Followed}
@@ -36,3 +36,14 @@ IsFresh stream history = All (λ e. is_at e stream ≡ false) history
 pub record Adds (events old new : List NetEvent) : Type 0 where
   pub grows : IsPrefixOf old new
   pub own : filter is_call new ≡ filter is_call old ++ events
+
+-- All that was asked of the net between two histories concerned this stream.
+pub record OnlyAt (stream : ℕ) (old new : List NetEvent) : Type 0 where
+  pub events : List NetEvent
+  pub adds : Adds events old new
+  pub here : All (λ e. is_at e stream ≡ true) events
+
+-- Histories one after another, between any two of which only this stream was concerned.
+abbrev pub StayAt : ℕ → List NetEvent → List (List NetEvent) → List NetEvent → Type 0
+StayAt stream old [] new = old ≡ new
+StayAt stream old (between ∷ later) new = OnlyAt stream old between × StayAt stream between later new

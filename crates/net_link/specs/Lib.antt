@@ -3,6 +3,7 @@ pub mod Causes
 pub mod Events
 pub mod Failing
 pub mod Inbox
+pub mod Keeps
 pub mod Prefix
 pub mod Round
 pub mod Script

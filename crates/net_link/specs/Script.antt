@@ -4,6 +4,7 @@ use Rattle.std.specs.Prelude.{◌≡◌, ◌+◌, ◌<◌, ◌≤◌, ℕ, Bool,
 use Rattle.std.proofs.Common.{arith, zero, suc}
 use Rattle.net_link.specs.Events.{IsFresh}
 use Rattle.net_link.specs.Failing.{Failing, counted, failed}
+use Rattle.net_link.specs.Keeps.{Keeps, Kept}
 use Rattle.net_link.specs.Told.{Told}
 use Rattle.net_link.specs.declared.event.NetEvent.{NetEvent}
 use Rattle.net_link.specs.declared.event.NetEvent.TheVariants as event
@@ -81,6 +82,10 @@ pub record Script : Type 0 where
   pub lines : List Line
   pub events : List NetEvent
   pub failing : Failing
+
+-- What a call keeps of the streams of a scripted net.
+abbrev pub ScriptKeeps : Kept → Script → Script → Type 0
+ScriptKeeps kept old new = Keeps kept (Unit {0}) (λ s. IsLive s.lines) (λ s. length s.lines) (λ s. unread s.lines) (λ s. Ends s.lines) old new
 
 -- Behind a dial, by its answer: each dial but one without memory uses up a plan.
 abbrev pub dial_state : List ℕ → Dialed → Script → Script

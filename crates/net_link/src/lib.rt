@@ -27,6 +27,7 @@ mod event;
 mod event_log;
 mod failures;
 mod gate;
+pub mod laws;
 mod line;
 mod list_dice;
 mod net;

@@ -1,10 +1,10 @@
-ghost use Rattle.std.specs.Prelude.{◌≡◌, ℕ, ◌<◌, ◌≤◌, List, length};
+ghost use Rattle.std.specs.Prelude.{◌≡◌, ℕ, ◌<◌, ◌≤◌, ◌^◌, List, length};
 ghost use Rattle.net_link.specs.declared.event.NetEvent.{NetEvent};
 ghost use Rattle.net_link.specs.Causes.{HasCause};
 ghost use Rattle.net_link.specs.Events.{Adds, IsFresh};
 ghost use Rattle.net_link.specs.Calls.{dial_events, write_events, read_events, close_events, IfStream, IsNewStream, TakesWithin, GotWithin};
-ghost use Rattle.net_link.specs.Streams.{KeepsOpen, KeepsOpenBut, StaysEnded};
-ghost use Rattle.net_link.specs.Inbox.{Arrives, ArrivesBut, ReadsInbox};
+ghost use Rattle.net_link.specs.Inbox.{ReadsInbox};
+ghost use Rattle.net_link.specs.Keeps.{Keeps, all, all_but, all_but_inbox_of};
 
 /// The answer of [`Net::dial`].
 #[derive(Clone, Copy, Debug, PartialEq, Eq)]
@@ -79,14 +79,11 @@ pub trait Net {
     fn dial(&mut self, address: &str) -> Dialed
         ensures cause { HasCause (faults self.old) (faults self.new) (result ≡ Dialed.Failed) }
 
-        ensures opens { KeepsOpen (is_open self.old) (is_open self.new) }
-        ensures numbers { next self.old ≤ next self.new }
+        ensures keeps { Keeps all tells is_open next inbox has_ended self.old self.new }
         ensures stream { IfStream result (IsNewStream (next self.old) (next self.new) (is_open self.new)) }
 
         ensures told { tells → Adds (dial_events address.now result) (history self.old) (history self.new) }
-        ensures fresh { tells → IfStream result (λ s. IsFresh s (history self.old)) }
-        ensures arrives { tells → Arrives (is_open self.old) (inbox self.old) (inbox self.new) }
-        ensures stays_ended { tells → StaysEnded (has_ended self.old) (has_ended self.new) };
+        ensures fresh { tells → IfStream result (λ s. IsFresh s (history self.old)) };
 
     /// Sends the front of a piece that is not empty.
     fn write(&mut self, stream: u64, bytes: &[u8]) -> Wrote
@@ -96,13 +93,10 @@ pub trait Net {
         ensures within { TakesWithin bytes.now result }
         ensures cause { HasCause (faults self.old) (faults self.new) (result ≡ Wrote.Failed) }
 
-        ensures opens { KeepsOpen (is_open self.old) (is_open self.new) }
-        ensures numbers { next self.old ≤ next self.new }
+        ensures keeps { Keeps all tells is_open next inbox has_ended self.old self.new }
 
         ensures told { tells → Adds (write_events stream bytes.now result) (history self.old) (history self.new) }
-        ensures full { tells → result ≡ Wrote.NotYet → is_full self.new stream }
-        ensures arrives { tells → Arrives (is_open self.old) (inbox self.old) (inbox self.new) }
-        ensures stays_ended { tells → StaysEnded (has_ended self.old) (has_ended self.new) };
+        ensures full { tells → result ≡ Wrote.NotYet → is_full self.new stream };
 
     /// Reads what has come into a piece that is not empty. What stands in the piece behind the bytes that it got, and
     /// in all of it at the other answers, is left open.
@@ -113,13 +107,10 @@ pub trait Net {
         ensures within { GotWithin into.new result }
         ensures cause { HasCause (faults self.old) (faults self.new) (result ≡ Came.Failed) }
 
-        ensures opens { KeepsOpen (is_open self.old) (is_open self.new) }
-        ensures numbers { next self.old ≤ next self.new }
+        ensures keeps { Keeps (all_but_inbox_of stream) tells is_open next inbox has_ended self.old self.new }
 
         ensures told { tells → Adds (read_events stream into.new result) (history self.old) (history self.new) }
-        ensures inbox { tells → ReadsInbox (inbox self.old stream) (inbox self.new stream) (has_ended self.new stream) into.new result }
-        ensures arrives { tells → ArrivesBut stream (is_open self.old) (inbox self.old) (inbox self.new) }
-        ensures stays_ended { tells → StaysEnded (has_ended self.old) (has_ended self.new) };
+        ensures inbox { tells → ReadsInbox (inbox self.old stream) (inbox self.new stream) (has_ended self.new stream) into.new result };
 
     /// Gives a stream back. It takes no memory.
     fn close(&mut self, stream: u64)
@@ -127,12 +118,12 @@ pub trait Net {
 
         ensures cause { faults self.old ≤ faults self.new }
 
-        ensures opens { KeepsOpenBut stream (is_open self.old) (is_open self.new) }
-        ensures numbers { next self.old ≤ next self.new }
+        ensures keeps { Keeps (all_but stream) tells is_open next inbox has_ended self.old self.new }
 
-        ensures told { tells → Adds (close_events stream) (history self.old) (history self.new) }
-        ensures arrives { tells → ArrivesBut stream (is_open self.old) (inbox self.old) (inbox self.new) }
-        ensures stays_ended { tells → StaysEnded (has_ended self.old) (has_ended self.new) };
+        ensures told { tells → Adds (close_events stream) (history self.old) (history self.new) };
+
+    /// A count of faults is below 2^64: a greater one would pass for risen whether or not it rose.
+    ghost counts: { (net : Self) → faults net < 2 ^ 64 };
 
     /// An open stream's number was given.
     ghost below: { (net : Self) (t : ℕ) → is_open net t → t < next net };

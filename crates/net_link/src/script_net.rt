@@ -1,12 +1,12 @@
 ghost use Rattle.std.specs.Prelude.{◌≡◌, ◌≢◌, ◌⊎◌, ◌<◌, ◌≤◌, List, ℕ, false, [], ◌∷◌, ◌++◌, length, take, OnOk, OnErr};
 ghost use Rattle.net_link.specs.declared.event.NetEvent.TheVariants as event;
-ghost use Rattle.net_link.specs.Causes.{HasCause};
+ghost use Rattle.net_link.specs.Causes.{HasCause, count_of};
 ghost use Rattle.net_link.specs.Calls.{dial_events, write_events, read_events, close_events, IfStream, IsNewStream, TakesWithin, GotWithin};
 ghost use Rattle.net_link.specs.Events.{Adds, IsFresh, is_at};
 ghost use Rattle.net_link.specs.Failing.{IsDue, unused};
-ghost use Rattle.net_link.specs.Inbox.{Arrives, ArrivesBut, ReadsInbox};
-ghost use Rattle.net_link.specs.Streams.{KeepsOpen, KeepsOpenBut, StaysEnded};
-ghost use Rattle.net_link.specs.Script.{IsLive, Ends, unread, line_at, piece_size, dial_state, write_state, read_state, close_state, noted, faulted, IsGiven};
+ghost use Rattle.net_link.specs.Inbox.{ReadsInbox};
+ghost use Rattle.net_link.specs.Keeps.{all, all_but, all_but_inbox_of};
+ghost use Rattle.net_link.specs.Script.{ScriptKeeps, IsLive, Ends, unread, line_at, piece_size, dial_state, write_state, read_state, close_state, noted, faulted, IsGiven};
 
 use crate::event_log::EventLog;
 use crate::failures::Failures;
@@ -152,9 +152,10 @@ impl ScriptNet {
 
 impl Net for ScriptNet {
     ghost use Rattle.std.specs.Prelude.{length};
+    ghost use Rattle.net_link.specs.Causes.{count_of, count_of-below};
     ghost use Rattle.net_link.specs.Script.{IsLive, Ends, unread, IsLive-below};
 
-    ghost faults = { λ n. n.failing.faults };
+    ghost faults = { λ n. count_of n.failing.faults };
 
     ghost is_open = { λ n t. IsLive n.lines t };
 
@@ -170,17 +171,16 @@ impl Net for ScriptNet {
 
     ghost is_full = { λ _ _. ⊥ };
 
+    ghost counts = { λ n. count_of-below n.failing.faults };
+
     ghost below = { λ n t live. IsLive-below n.lines t live };
 
     fn dial(&mut self, address: &str) -> Dialed
-        ensures cause { HasCause self.old.failing.faults self.new.failing.faults (result ≡ Dialed.Failed) }
-        ensures opens { KeepsOpen (IsLive self.old.lines) (IsLive self.new.lines) }
-        ensures numbers { length self.old.lines ≤ length self.new.lines }
+        ensures cause { HasCause (count_of self.old.failing.faults) (count_of self.new.failing.faults) (result ≡ Dialed.Failed) }
+        ensures keeps { ScriptKeeps all self.old self.new }
         ensures stream { IfStream result (IsNewStream (length self.old.lines) (length self.new.lines) (IsLive self.new.lines)) }
         ensures told { Adds (dial_events address.now result) self.old.events self.new.events }
         ensures fresh { IfStream result (λ t. IsFresh t self.old.events) }
-        ensures arrives { Arrives (IsLive self.old.lines) (unread self.old.lines) (unread self.new.lines) }
-        ensures stays_ended { StaysEnded (Ends self.old.lines) (Ends self.new.lines) }
 
         ensures state { self.new ≡ dial_state address.now result self.old }
         ensures fails { result ≡ Dialed.Failed → IsDue self.old.failing ⊎ (self.old.plans ≡ []) }
@@ -201,13 +201,10 @@ impl Net for ScriptNet {
         requires piece { 0 < length bytes.now }
 
         ensures within { TakesWithin bytes.now result }
-        ensures cause { HasCause self.old.failing.faults self.new.failing.faults (result ≡ Wrote.Failed) }
-        ensures opens { KeepsOpen (IsLive self.old.lines) (IsLive self.new.lines) }
-        ensures numbers { length self.old.lines ≤ length self.new.lines }
+        ensures cause { HasCause (count_of self.old.failing.faults) (count_of self.new.failing.faults) (result ≡ Wrote.Failed) }
+        ensures keeps { ScriptKeeps all self.old self.new }
         ensures told { Adds (write_events stream bytes.now result) self.old.events self.new.events }
         ensures full { result ≢ Wrote.NotYet }
-        ensures arrives { Arrives (IsLive self.old.lines) (unread self.old.lines) (unread self.new.lines) }
-        ensures stays_ended { StaysEnded (Ends self.old.lines) (Ends self.new.lines) }
 
         ensures state { self.new ≡ write_state stream bytes.now result self.old }
         ensures fails { result ≡ Wrote.Failed → IsDue self.old.failing }
@@ -235,13 +232,10 @@ impl Net for ScriptNet {
         requires piece { 0 < length into.old }
 
         ensures within { GotWithin into.new result }
-        ensures cause { HasCause self.old.failing.faults self.new.failing.faults (result ≡ Came.Failed) }
-        ensures opens { KeepsOpen (IsLive self.old.lines) (IsLive self.new.lines) }
-        ensures numbers { length self.old.lines ≤ length self.new.lines }
+        ensures cause { HasCause (count_of self.old.failing.faults) (count_of self.new.failing.faults) (result ≡ Came.Failed) }
+        ensures keeps { ScriptKeeps (all_but_inbox_of stream) self.old self.new }
         ensures told { Adds (read_events stream into.new result) self.old.events self.new.events }
         ensures inbox { ReadsInbox (unread self.old.lines stream) (unread self.new.lines stream) (Ends self.new.lines stream) into.new result }
-        ensures arrives { ArrivesBut stream (IsLive self.old.lines) (unread self.old.lines) (unread self.new.lines) }
-        ensures stays_ended { StaysEnded (Ends self.old.lines) (Ends self.new.lines) }
 
         ensures state { self.new ≡ read_state stream into.new result self.old }
         ensures fails { result ≡ Came.Failed → IsDue self.old.failing }
@@ -277,12 +271,9 @@ impl Net for ScriptNet {
     fn close(&mut self, stream: u64)
         requires { IsLive self.old.lines stream }
 
-        ensures cause { self.old.failing.faults ≤ self.new.failing.faults }
-        ensures opens { KeepsOpenBut stream (IsLive self.old.lines) (IsLive self.new.lines) }
-        ensures numbers { length self.old.lines ≤ length self.new.lines }
+        ensures cause { count_of self.old.failing.faults ≤ count_of self.new.failing.faults }
+        ensures keeps { ScriptKeeps (all_but stream) self.old self.new }
         ensures told { Adds (close_events stream) self.old.events self.new.events }
-        ensures arrives { ArrivesBut stream (IsLive self.old.lines) (unread self.old.lines) (unread self.new.lines) }
-        ensures stays_ended { StaysEnded (Ends self.old.lines) (Ends self.new.lines) }
 
         ensures state { self.new ≡ close_state stream self.old }
         ensures closed { ¬ IsLive self.new.lines stream }

@@ -1,4 +1,4 @@
-ghost use Rattle.std.specs.Prelude.{◌≡◌, ℕ, ◌<◌, List, length};
+ghost use Rattle.std.specs.Prelude.{◌≡◌, ℕ, ◌<◌, ◌^◌, List, length};
 ghost use Rattle.net_link.specs.Causes.{HasCause};
 ghost use Rattle.net_link.specs.Sinks.{TakesTo, TookWithin};
 
@@ -28,4 +28,7 @@ pub trait Sink {
         ensures within { TookWithin bytes.now result }
         ensures cause { HasCause (faults self.old) (faults self.new) (result ≡ SinkTook.Failed) }
         ensures told { tells → TakesTo (written self.old) (written self.new) bytes.now result };
+
+    /// A count of faults is below 2^64: a greater one would pass for risen whether or not it rose.
+    ghost counts: { (sink : Self) → faults sink < 2 ^ 64 };
 }

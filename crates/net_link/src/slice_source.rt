@@ -1,5 +1,5 @@
 ghost use Rattle.std.specs.Prelude.{◌≡◌, ◌↔◌, ◌<◌, [], length, min};
-ghost use Rattle.net_link.specs.Causes.{HasCause};
+ghost use Rattle.net_link.specs.Causes.{HasCause, count_of};
 ghost use Rattle.net_link.specs.Failing.{IsDue, unused};
 ghost use Rattle.net_link.specs.Sources.{Gives, GivesWithin, IfGot, source_counts};
 
@@ -43,16 +43,20 @@ impl SliceSource {
 }
 
 impl Source for SliceSource {
-    ghost faults = { λ s. s.failing.faults };
+    ghost use Rattle.net_link.specs.Causes.{count_of, count_of-below};
+
+    ghost faults = { λ s. count_of s.failing.faults };
 
     ghost tells = { Unit {0} };
 
     ghost left = { λ s. s.left };
 
+    ghost counts = { λ s. count_of-below s.failing.faults };
+
     fn read(&mut self, into: &mut [u8]) -> SourceCame
         requires { 0 < length into.old }
         ensures within { GivesWithin into.new result }
-        ensures cause { HasCause self.old.failing.faults self.new.failing.faults (result ≡ SourceCame.Failed) }
+        ensures cause { HasCause (count_of self.old.failing.faults) (count_of self.new.failing.faults) (result ≡ SourceCame.Failed) }
         ensures told { Gives self.old.left self.new.left into.new result }
 
         ensures fails { (result ≡ SourceCame.Failed) ↔ IsDue self.old.failing }

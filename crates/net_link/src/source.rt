@@ -1,4 +1,4 @@
-ghost use Rattle.std.specs.Prelude.{◌≡◌, ℕ, ◌<◌, List, length};
+ghost use Rattle.std.specs.Prelude.{◌≡◌, ℕ, ◌<◌, ◌^◌, List, length};
 ghost use Rattle.net_link.specs.Causes.{HasCause};
 ghost use Rattle.net_link.specs.Sources.{Gives, GivesWithin};
 
@@ -30,4 +30,7 @@ pub trait Source {
         ensures within { GivesWithin into.new result }
         ensures cause { HasCause (faults self.old) (faults self.new) (result ≡ SourceCame.Failed) }
         ensures told { tells → Gives (left self.old) (left self.new) into.new result };
+
+    /// A count of faults is below 2^64: a greater one would pass for risen whether or not it rose.
+    ghost counts: { (source : Self) → faults source < 2 ^ 64 };
 }

@@ -195,3 +195,11 @@ fn turns_send_and_receive(rt: HostRuntime) -> Result<(), Fail> {
     assert_eq!(rt; reply.as_slice(), b"reply".as_slice());
     Ok(())
 }
+
+#[test]
+fn the_laws(_rt: HostRuntime) {
+    laws::other_streams_stay();
+    laws::calls_on_one_stream();
+    laws::gains_are_calls();
+    laws::gains_join();
+}

@@ -1,11 +1,10 @@
-ghost use Rattle.std.specs.Prelude.{◌≡◌, ◌<◌, ◌≤◌, ◌++◌, ℕ, List, length, take, drop};
+ghost use Rattle.std.specs.Prelude.{◌≡◌, ◌<◌, ◌++◌, length, drop};
 ghost use Rattle.net_link.specs.Causes.{HasCause};
 ghost use Rattle.net_link.specs.Events.{Adds};
 ghost use Rattle.net_link.specs.Calls.{write_events, read_events, TakesWithin};
-ghost use Rattle.net_link.specs.Streams.{KeepsOpen, StaysEnded};
-ghost use Rattle.net_link.specs.Inbox.{Arrives, ArrivesBut, ReadsInbox};
-ghost use Rattle.net_link.specs.Seen.{Seen, seen};
-ghost use Rattle.net_link.specs.Turns.{Outs, Comes, Sends, Receives, added, AddsUpTo};
+ghost use Rattle.net_link.specs.Inbox.{ReadsInbox};
+ghost use Rattle.net_link.specs.Keeps.{Keeps, all, all_but_inbox_of};
+ghost use Rattle.net_link.specs.Turns.{added, AddsUpTo};
 
 use crate::pieces::fill;
 use crate::{Came, Net, Wrote};
@@ -21,17 +20,10 @@ pub fn send_some<N: Net>(net: &mut N, stream: u64, bytes: &[u8], sent: usize) ->
 
     ensures within { TakesWithin (drop sent bytes.now) result }
     ensures cause { HasCause (N.faults net.old) (N.faults net.new) (result ≡ Wrote.Failed) }
-    ensures opens { KeepsOpen (N.is_open net.old) (N.is_open net.new) }
-    ensures numbers { N.next net.old ≤ N.next net.new }
+    ensures keeps { Keeps all N.tells N.is_open N.next N.inbox N.has_ended net.old net.new }
 
     ensures told { N.tells → Adds (write_events stream (drop sent bytes.now) result) (N.history net.old) (N.history net.new) }
     ensures full { N.tells → result ≡ Wrote.NotYet → N.is_full net.new stream }
-    ensures arrives { N.tells → Arrives (N.is_open net.old) (N.inbox net.old) (N.inbox net.new) }
-    ensures stays_ended { N.tells → StaysEnded (N.has_ended net.old) (N.has_ended net.new) }
-
-    // At any earlier moment since which exactly the first `sent` bytes went out.
-    ensures since { N.tells → (began : Seen) → Outs began (seen stream (N.history net.old)) (take sent bytes.now)
-        → Sends began (seen stream (N.history net.new)) sent bytes.now result }
 {
     net.write(stream, &bytes[sent..])
 }
@@ -44,17 +36,10 @@ pub fn receive_some<N: Net>(net: &mut N, stream: u64, into: &mut Buffer<u8>, wan
     ensures kept { into.new.items ≡ into.old.items ++ added into.old.items into.new.items }
     ensures within { AddsUpTo want (added into.old.items into.new.items) result }
     ensures cause { HasCause (N.faults net.old) (N.faults net.new) (result ≡ Came.Failed) }
-    ensures opens { KeepsOpen (N.is_open net.old) (N.is_open net.new) }
-    ensures numbers { N.next net.old ≤ N.next net.new }
+    ensures keeps { Keeps (all_but_inbox_of stream) N.tells N.is_open N.next N.inbox N.has_ended net.old net.new }
 
     ensures told { N.tells → Adds (read_events stream (added into.old.items into.new.items) result) (N.history net.old) (N.history net.new) }
     ensures inbox { N.tells → ReadsInbox (N.inbox net.old stream) (N.inbox net.new stream) (N.has_ended net.new stream) (added into.old.items into.new.items) result }
-    ensures arrives { N.tells → ArrivesBut stream (N.is_open net.old) (N.inbox net.old) (N.inbox net.new) }
-    ensures stays_ended { N.tells → StaysEnded (N.has_ended net.old) (N.has_ended net.new) }
-
-    // At any earlier moment since which exactly the bytes `before` came.
-    ensures since { N.tells → (began : Seen) (before : List ℕ) → Comes began (seen stream (N.history net.old)) before
-        → Receives began (seen stream (N.history net.new)) before (added into.old.items into.new.items) result }
 {
     let size = want.min(PIECE);
     let Ok(()) = into.reserve(size) else {

@@ -1,5 +1,5 @@
 ghost use Rattle.std.specs.Prelude.{◌≡◌, ◌↔◌, ◌⊎◌, ◌<◌, ◌-◌, ◌≤◌, [], length, min, IfOk};
-ghost use Rattle.net_link.specs.Causes.{HasCause};
+ghost use Rattle.net_link.specs.Causes.{HasCause, count_of};
 ghost use Rattle.net_link.specs.Failing.{IsDue, unused};
 ghost use Rattle.net_link.specs.Sinks.{IfTook, TakesTo, TookWithin, sink_counts};
 
@@ -54,17 +54,21 @@ impl VecSink {
 }
 
 impl Sink for VecSink {
-    ghost faults = { λ s. s.failing.faults };
+    ghost use Rattle.net_link.specs.Causes.{count_of, count_of-below};
+
+    ghost faults = { λ s. count_of s.failing.faults };
 
     ghost tells = { Unit {0} };
 
     ghost written = { λ s. s.written };
 
+    ghost counts = { λ s. count_of-below s.failing.faults };
+
     /// Takes as much of the piece as its size has room for.
     fn write(&mut self, bytes: &[u8]) -> SinkTook
         requires { 0 < length bytes.now }
         ensures within { TookWithin bytes.now result }
-        ensures cause { HasCause self.old.failing.faults self.new.failing.faults (result ≡ SinkTook.Failed) }
+        ensures cause { HasCause (count_of self.old.failing.faults) (count_of self.new.failing.faults) (result ≡ SinkTook.Failed) }
         ensures told { TakesTo self.old.written self.new.written bytes.now result }
 
         ensures size { self.new.size ≡ self.old.size }

@@ -1,7 +1,7 @@
 //! Type bytes.
 
 use super::*;
-use crate::kind::Kind;
+use bson_doc::Kind;
 
 #[test]
 fn kinds_and_truth_values(rt: HostRuntime) -> Result<(), Fail> {

@@ -1,4 +1,5 @@
 ghost use Rattle.std.specs.Prelude.{◌<◌, []};
+ghost use Rattle.net_link.specs.Causes.{count_of-below};
 
 use net_link::{Came, Dialed, Net, Wrote};
 
@@ -39,6 +40,8 @@ impl Net for PiecesNet<'_> {
     ghost has_ended = { λ _ _. ⊥ };
 
     ghost is_full = { λ _ _. ⊥ };
+
+    ghost counts = { λ _. count_of-below 0 };
 
     ghost below = { λ _ _ given. given };
 

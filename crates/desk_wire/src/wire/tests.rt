@@ -2,7 +2,7 @@
 
 use super::Wire;
 use crate::tests::pieces_net::PiecesNet;
-use crate::{Pulled, front_asks_on, parted_once, pulls_in_order, sends_in_order};
+use crate::{Pulled, laws};
 use net_link::{Dialed, Net};
 use std::test::Fail;
 
@@ -36,8 +36,10 @@ fn a_promise_of_many_bytes_makes_it_hold_sixteen(rt: HostRuntime) -> Result<(), 
 
 #[test]
 fn the_laws(_rt: HostRuntime) {
-    pulls_in_order();
-    parted_once();
-    front_asks_on();
-    sends_in_order();
+    laws::pulls_in_order();
+    laws::parted_once();
+    laws::front_asks_on();
+    laws::sends_in_order();
+    laws::on_one_stream();
+    laws::gains();
 }

@@ -1,6 +1,7 @@
 //! A peer that is slow, or never there: the limit of time decides, and nothing else does.
 
 ghost use Rattle.std.specs.Prelude.{◌≡◌, ◌<◌, []};
+ghost use Rattle.net_link.specs.Causes.{count_of-below};
 
 use super::{FRONT, REPLY, REQUEST, SCRIPT, one_host, over_script, source};
 use crate::{ShotEnd, run};
@@ -43,6 +44,8 @@ impl Net for SlowNet {
     ghost has_ended = { λ _ _. ⊥ };
 
     ghost is_full = { λ _ _. ⊥ };
+
+    ghost counts = { λ _. count_of-below 0 };
 
     ghost below = { λ _ _ given. given };
 

@@ -1,5 +1,5 @@
 use Rattle.std.proofs.lemmas.Result.{err_from_is_err_and}
-use Rattle.bson_wire.proofs.Outermost.{is_found, is_only, is_sound, is_memory, is_flaw}
+use Rattle.bson_doc.proofs.wire.Outermost.{is_found, is_only, is_sound, is_memory, is_flaw}
 use Rattle.bson_wire.proofs.decoding.decode.Goals as goal
 
 pub returns-in_err-document-clause-only : goal.returns-in_err-document-clause-only

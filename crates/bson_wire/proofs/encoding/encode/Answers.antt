@@ -1,7 +1,7 @@
 use Rattle.std.proofs.Common.{◌≤◌, ◌++◌, List, ℕ, ap, ◌∙◌, arith}
 use Rattle.bson_doc.specs.Documents.{depth_of}
-use Rattle.bson_wire.specs.Spelled.{spelled}
-use Rattle.bson_wire.proofs.Outermost.{read_again}
+use Rattle.bson_doc.specs.wire.Spelled.{spelled}
+use Rattle.bson_doc.proofs.wire.Outermost.{read_again}
 use Rattle.bson_wire.proofs.Written.{outermost_spells}
 use Rattle.bson_wire.proofs.encoding.encode.Goals as goal
 

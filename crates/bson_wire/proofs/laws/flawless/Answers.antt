@@ -1,4 +1,4 @@
-use Rattle.bson_wire.proofs.Outermost.{has_spelling, has_no_flaw}
+use Rattle.bson_doc.proofs.wire.Outermost.{has_spelling, has_no_flaw}
 use Rattle.bson_wire.proofs.laws.flawless.Goals as goal
 
 pub returns : goal.returns

@@ -1,4 +1,4 @@
-use Rattle.bson_wire.proofs.Outermost.{one_document}
+use Rattle.bson_doc.proofs.wire.Outermost.{one_document}
 use Rattle.bson_wire.proofs.laws.one_document.Goals as goal
 
 pub returns : goal.returns

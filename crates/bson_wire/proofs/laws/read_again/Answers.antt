@@ -1,4 +1,4 @@
-use Rattle.bson_wire.proofs.Outermost.{read_again}
+use Rattle.bson_doc.proofs.wire.Outermost.{read_again}
 use Rattle.bson_wire.proofs.laws.read_again.Goals as goal
 
 pub returns : goal.returns

@@ -1,6 +1,6 @@
 use Rattle.std.proofs.Common.{sym, subst}
 use Rattle.bson_doc.specs.Names.{HasNoZero}
-use Rattle.bson_wire.proofs.Texts.{zero_parts, text_at-Ok}
+use Rattle.bson_doc.proofs.wire.Texts.{zero_parts, text_at-Ok}
 use Rattle.bson_wire.proofs.parts.name_of.Goals as goal
 
 pub returns-clause-no_zero : goal.returns-clause-no_zero

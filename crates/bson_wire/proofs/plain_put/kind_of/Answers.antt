@@ -1,5 +1,5 @@
 use Rattle.std.proofs.Common.{sym, ap}
-use Rattle.bson_wire.specs.Spelled.{Payload}
+use Rattle.bson_doc.specs.wire.Spelled.{Payload}
 use Rattle.bson_wire.proofs.Payloads.{payload-Str, payload-Doc, payload-Array, payload-Scope, payload-Binary, payload-Bool, payload-Regex, payload-DbPointer, payload-Code, payload-Symbol, payload-Stamp}
 use Rattle.bson_wire.proofs.plain_put.kind_of.Goals as goal
 

@@ -1,9 +1,9 @@
 use Rattle.std.proofs.Common.{refl, arith}
 use Rattle.std.proofs.lemmas.Result.{err_from_is_err_and}
-use Rattle.bson_wire.specs.Spelling.{values}
-use Rattle.bson_wire.specs.Reading.{document_at}
-use Rattle.bson_wire.proofs.Steps.{bind-Ok, Fails-mapped}
-use Rattle.bson_wire.proofs.Loop.{elements_view, values_view, goes_on, stops, is_done, goes_on_item, unnamed_body-elements, unnamed_body-end, unnamed_body-Ok}
+use Rattle.bson_doc.specs.wire.Spelling.{values}
+use Rattle.bson_doc.specs.wire.Reading.{document_at}
+use Rattle.bson_doc.proofs.Steps.{bind-Ok}
+use Rattle.bson_wire.proofs.Loop.{elements_view, values_view, goes_on, stops, stops_item, is_done, goes_on_item, unnamed_body-elements, unnamed_body-end, unnamed_body-Ok}
 use Rattle.bson_wire.proofs.reading.+reading.Goals as goal
 
 pub elements_of-loop-rest-init : goal.elements_of-loop-rest-init
@@ -35,7 +35,7 @@ items_of-loop-rest-init t c = record {
 pub items_of-returns-in_err-value : goal.items_of-returns-in_err-value
 items_of-returns-in_err-value t c =
     let p = err_from_is_err_and c.from_residual.result c.from_residual.ensures.1 in
-    λ fuel le. rw (p.1, p.2) (stops values (document_at c.args.levels) c.args.span.start c.args.span.end c.loop-rest.items c.loop-rest.rest.now c.in_err-value.field-0.0 _ c.in-len1-up.len_at_least (Fails-mapped (λ x. (x.0.1, x.1)) _ _ c.in_err-value.ensures.gives) (c.loop-rest.invariant.goes_on fuel le))
+    λ fuel le. rw (p.1, p.2) (stops_item (document_at c.args.levels) c.args.span.start c.args.span.end c.loop-rest.items c.loop-rest.rest.now c.in_err-value.field-0.0 _ c.in-len1-up.len_at_least c.in_err-value.ensures.gives (c.loop-rest.invariant.goes_on fuel le))
 
 pub items_of-loop-rest-preserved : goal.items_of-loop-rest-preserved
 items_of-loop-rest-preserved t c =

@@ -1,6 +1,6 @@
 use Rattle.std.proofs.Common.{ℕ, ◌+◌, ◌*◌, ◌≤◌, length}
-use Rattle.bson_wire.specs.Spelling.{values}
-use Rattle.bson_wire.specs.Reading.{document_at, elements_at, unnamed_elements}
+use Rattle.bson_doc.specs.wire.Spelling.{values}
+use Rattle.bson_doc.specs.wire.Reading.{document_at, elements_at, unnamed_elements}
 use Rattle.bson_wire.proofs.Loop.{GoesOn}
 use Rattle.bson_wire.proofs.reading.+reading.Given as goal
 

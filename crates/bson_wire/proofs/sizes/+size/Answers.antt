@@ -1,6 +1,6 @@
 use Rattle.std.proofs.Common.{◌≡◌, ◌+◌, ap, arith, length, map, decimal}
 use Rattle.std.proofs.lemmas.List.{at_drop_all}
-use Rattle.bson_wire.specs.Spelled.{numbered, payload, spelled, spelled_elements, string}
+use Rattle.bson_doc.specs.wire.Spelled.{numbered, payload, spelled, spelled_elements, string}
 use Rattle.bson_wire.proofs.Payloads.{payload-Doc, payload-Array, payload-Scope}
 use Rattle.bson_wire.proofs.Written.{length-document}
 use Rattle.bson_wire.proofs.Lengths.{length-scope, length-elements_left, length-items_left, sum_one_on}

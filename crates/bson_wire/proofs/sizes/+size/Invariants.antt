@@ -1,5 +1,5 @@
 use Rattle.std.proofs.Common.{◌≡◌, ◌<◌, ◌+◌, ◌-◌, ◌^◌, min, length, drop, map}
-use Rattle.bson_wire.specs.Spelled.{payload, numbered, spelled_elements}
+use Rattle.bson_doc.specs.wire.Spelled.{payload, numbered, spelled_elements}
 use Rattle.bson_wire.proofs.sizes.+size.Given as goal
 
 abbrev pub invariant-size_of_elements-loop-name : goal.invariant-size_of_elements-loop-name

@@ -2,8 +2,8 @@ use Rattle.std.proofs.Common.{ℕ, ◌+◌, List, ◌++◌, length, drop, map, s
 use Rattle.std.proofs.lemmas.List.{length-append}
 use Rattle.std.proofs.lemmas.Result.{err_from_is_err_and}
 use Rattle.bson_doc.specs.declared.value.Value.TheVariants as value
-use Rattle.bson_wire.specs.Spelling.{IsName}
-use Rattle.bson_wire.specs.Spelled.{element, numbered, payload, spelled_elements}
+use Rattle.bson_doc.specs.wire.Spelling.{IsName}
+use Rattle.bson_doc.specs.wire.Spelled.{element, numbered, payload, spelled_elements}
 use Rattle.bson_wire.specs.Written.{ElementSpells, PayloadSpells}
 use Rattle.bson_wire.proofs.Payloads.{payload-Doc, payload-Array, payload-Scope}
 use Rattle.bson_wire.proofs.Written.{OnOk-both, stops_more, doc_spells, array_spells, scope_spells, elements_left, items_left, writes_more, known_more, part-le}

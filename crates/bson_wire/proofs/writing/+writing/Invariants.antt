@@ -1,6 +1,6 @@
 use Rattle.std.proofs.Common.{◌≡◌, ◌+◌, ◌≤◌, [], ◌∷◌, ◌++◌, length, drop, map}
 use Rattle.std.specs.List.{AllByRecursion}
-use Rattle.bson_wire.specs.Spelled.{payload, numbered, spelled_elements}
+use Rattle.bson_doc.specs.wire.Spelled.{payload, numbered, spelled_elements}
 use Rattle.bson_wire.specs.Written.{ElementSpells, PayloadSpells}
 use Rattle.bson_wire.proofs.writing.+writing.Given as goal
 

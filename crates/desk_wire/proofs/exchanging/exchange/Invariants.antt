@@ -1,6 +1,5 @@
 use Rattle.std.proofs.Common.{◌≡◌, ◌≤◌}
-use Rattle.net_link.specs.Inbox.{ArrivesBut}
-use Rattle.net_link.specs.Streams.{KeepsOpen, StaysEnded}
+use Rattle.net_link.specs.Keeps.{Keeps, all_but_inbox_of}
 use Rattle.desk_wire.specs.Exchange.{Exchanges}
 use Rattle.desk_wire.specs.State.{State}
 use Rattle.desk_wire.specs.declared.answers.Pulled.TheVariants as pulled
@@ -12,8 +11,5 @@ invariant-exchanging g l = record {
   kept : l.wire ≡ (let now : State = record l.fn.wire { unsent = l.wire.unsent; held = l.wire.held } in now);
   trades : Exchanges g.N.Net.tells l.fn.wire l.wire (g.N.Net.history l.fn.net) (g.N.Net.history l.net) pulled.Memory;
   later : g.N.Net.faults l.fn.net ≤ g.N.Net.faults l.net;
-  opens : KeepsOpen (g.N.Net.is_open l.fn.net) (g.N.Net.is_open l.net);
-  numbers : g.N.Net.next l.fn.net ≤ g.N.Net.next l.net;
-  arrives : g.N.Net.tells → ArrivesBut l.fn.wire.stream (g.N.Net.is_open l.fn.net) (g.N.Net.inbox l.fn.net) (g.N.Net.inbox l.net);
-  stays_ended : g.N.Net.tells → StaysEnded (g.N.Net.has_ended l.fn.net) (g.N.Net.has_ended l.net);
+  keeps : Keeps (all_but_inbox_of l.fn.wire.stream) g.N.Net.tells g.N.Net.is_open g.N.Net.next g.N.Net.inbox g.N.Net.has_ended l.fn.net l.net;
 }

@@ -8,7 +8,7 @@ use Rattle.msg_wire.proofs.documents.documents_of.Goals as goal
 pub loop-rest-init : goal.loop-rest-init
 loop-rest-init c = record {
   within = c.requires;
-  goes_on = λ fuel lt. (fuel, lt, rw c.new-docs.ensures (bind-Ok _));
+  goes_on = λ fuel lt. (fuel, lt, rw c.new-docs.ensures.empty (bind-Ok _));
 }
 
 pub returns-in_err-document : goal.returns-in_err-document

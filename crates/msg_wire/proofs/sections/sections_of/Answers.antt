@@ -6,7 +6,7 @@ use Rattle.msg_wire.proofs.sections.sections_of.Goals as goal
 pub loop-rest-init : goal.loop-rest-init
 loop-rest-init c = record {
   within = c.requires;
-  goes_on = λ fuel lt. rw c.new-sequences.ensures (begins c.args.spare c.args.end fuel c.args.bytes.now lt);
+  goes_on = λ fuel lt. rw c.new-sequences.ensures.empty (begins c.args.spare c.args.end fuel c.args.bytes.now lt);
 }
 
 pub returns-in_err-section : goal.returns-in_err-section

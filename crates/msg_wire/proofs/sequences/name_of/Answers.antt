@@ -1,6 +1,6 @@
 use Rattle.std.proofs.Common.{sym, subst}
 use Rattle.bson_doc.specs.Names.{HasNoZero}
-use Rattle.bson_wire.proofs.Texts.{zero_parts}
+use Rattle.bson_doc.proofs.wire.Texts.{zero_parts}
 use Rattle.msg_wire.proofs.Names.{text_at-Ok}
 use Rattle.msg_wire.proofs.sequences.name_of.Goals as goal
 

@@ -22,7 +22,7 @@ pub returns-clause-ok : goal.returns-clause-ok
 returns-clause-ok c =
     let id = to_z-of_z w32 c.args.id c.ranges.id in
     let to = to_z-of_z w32 c.args.to c.ranges.to in
-    let bytes = rw (id, to, c.as_slice.ensures) at c.in_ok-bytes.ensures in
+    let bytes = rw (id, to, c.as_slice.ensures.value) at c.in_ok-bytes.ensures in
     bytes ∙ frame-spelled c.args.id c.args.to c.args.flags c.in_ok-spelling.spelling c.args.body.now c.in_ok-spelling.ensures.ok
 
 pub returns-clause-framed : goal.returns-clause-framed

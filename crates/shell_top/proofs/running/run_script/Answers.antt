@@ -5,11 +5,11 @@ use Rattle.shell_top.proofs.running.run_script.Goals as goal
 
 pub run_commands-requires-clause-few : goal.run_commands-requires-clause-few
 run_commands-requires-clause-few g c =
-    omega (arith, ap length c.as_slice.ensures, commands-few c.in-Ok.ensures.reads.bytes c.in-Ok.commands c.in-Ok.ensures.reads.says)
+    omega (arith, ap length c.as_slice.ensures.value, commands-few c.in-Ok.ensures.reads.bytes c.in-Ok.commands c.in-Ok.ensures.reads.says)
 
 pub run_commands-requires-clause-shallow : goal.run_commands-requires-clause-shallow
 run_commands-requires-clause-shallow g c =
-    shallow-as _ c.in-Ok.commands c.as_slice.ensures (commands-shallow c.in-Ok.ensures.reads.bytes c.in-Ok.commands c.in-Ok.ensures.reads.says)
+    shallow-as _ c.in-Ok.commands c.as_slice.ensures.value (commands-shallow c.in-Ok.ensures.reads.bytes c.in-Ok.commands c.in-Ok.ensures.reads.says)
 
 pub returns-in-Ok-clause-in_script : goal.returns-in-Ok-clause-in_script
 returns-in-Ok-clause-in_script g c = λ tells fault is. not-refused _ c.in-Ok.commands fault _ (tells-ok _ _ c.in-Ok.commands c.in-Ok.ensures.reads) tells is
@@ -17,19 +17,19 @@ returns-in-Ok-clause-in_script g c = λ tells fault is. not-refused _ c.in-Ok.co
 pub returns-in-Ok-clause-lines : goal.returns-in-Ok-clause-lines
 returns-in-Ok-clause-lines g c = λ done. record {
   commands = c.as_slice.result.now;
-  script = tells-as _ _ c.in-Ok.commands c.as_slice.ensures (tells-ok _ _ c.in-Ok.commands c.in-Ok.ensures.reads);
+  script = tells-as _ _ c.in-Ok.commands c.as_slice.ensures.value (tells-ok _ _ c.in-Ok.commands c.in-Ok.ensures.reads);
   count = c.run_commands.ensures.all done;
 }
 
 pub returns-in-Ok-clause-requests : goal.returns-in-Ok-clause-requests
 returns-in-Ok-clause-requests g c =
-    reached-shoots _ _ c.as_slice.result.now _ _ (tells-as _ _ c.in-Ok.commands c.as_slice.ensures (tells-ok _ _ c.in-Ok.commands c.in-Ok.ensures.reads))
+    reached-shoots _ _ c.as_slice.result.now _ _ (tells-as _ _ c.in-Ok.commands c.as_slice.ensures.value (tells-ok _ _ c.in-Ok.commands c.in-Ok.ensures.reads))
     c.run_commands.ensures.reached c.run_commands.ensures.commands c.run_commands.ensures.all
 
 pub returns-in-Ok-clause-once : goal.returns-in-Ok-clause-once
 returns-in-Ok-clause-once g c = λ tells. inr (record {
   commands = c.as_slice.result.now;
-  script = tells-as _ _ c.in-Ok.commands c.as_slice.ensures (tells-ok _ _ c.in-Ok.commands c.in-Ok.ensures.reads);
+  script = tells-as _ _ c.in-Ok.commands c.as_slice.ensures.value (tells-ok _ _ c.in-Ok.commands c.in-Ok.ensures.reads);
   once = c.run_commands.ensures.once tells;
 })
 

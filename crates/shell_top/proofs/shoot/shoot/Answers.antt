@@ -8,16 +8,16 @@ converse-ending-requires-clause-unseen g c = λ tells. unseen-dialled _ (c.in-St
 
 pub returns-in_err-ending-in-Stream-clause-once : goal.returns-in_err-ending-in-Stream-clause-once
 returns-in_err-ending-in-Stream-clause-once g c = λ tells.
-    once-on _ (c.in-Stream.ensures.fresh tells) (c.in-Stream.ensures.told tells) (sends-as c.as_slice.ensures (c.converse-ending.ensures.sends tells)) (c.close.ensures.told tells)
+    once-on _ (c.in-Stream.ensures.fresh tells) (c.in-Stream.ensures.told tells) (sends-as c.as_slice.ensures.value (c.converse-ending.ensures.sends tells)) (c.close.ensures.told tells)
 
 pub returns-in_ok-ending-in-Stream-clause-wired : goal.returns-in_ok-ending-in-Stream-clause-wired
 returns-in_ok-ending-in-Stream-clause-wired g c = λ tells.
     wired-on c.args.id c.args.address.now _ _ (c.in-Stream.ensures.fresh tells) (c.in-Stream.ensures.told tells)
-    (sends-as c.as_slice.ensures (c.converse-ending.ensures.sends tells)) (means-as c.args.id _ _ _ c.as_slice.ensures (means-of _ _ _ _ (to_z-of_z w32 c.args.id c.ranges.id) (c.in_ok-ending-in-Stream.ensures.means tells))) (c.close.ensures.told tells)
+    (sends-as c.as_slice.ensures.value (c.converse-ending.ensures.sends tells)) (means-as c.args.id _ _ _ c.as_slice.ensures.value (means-of _ _ _ _ (to_z-of_z w32 c.args.id c.ranges.id) (c.in_ok-ending-in-Stream.ensures.means tells))) (c.close.ensures.told tells)
 
 pub returns-in_ok-ending-in-Stream-clause-once : goal.returns-in_ok-ending-in-Stream-clause-once
 returns-in_ok-ending-in-Stream-clause-once g c = λ tells.
-    once-on _ (c.in-Stream.ensures.fresh tells) (c.in-Stream.ensures.told tells) (sends-as c.as_slice.ensures (c.converse-ending.ensures.sends tells)) (c.close.ensures.told tells)
+    once-on _ (c.in-Stream.ensures.fresh tells) (c.in-Stream.ensures.told tells) (sends-as c.as_slice.ensures.value (c.converse-ending.ensures.sends tells)) (c.close.ensures.told tells)
 
 pub returns-in-Failed-clause-once : goal.returns-in-Failed-clause-once
 returns-in-Failed-clause-once g c = λ tells. once-no_dial _ _ (c.in-Failed.ensures.told tells)

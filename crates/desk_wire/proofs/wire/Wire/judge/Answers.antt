@@ -11,6 +11,6 @@ invariant_of-self c = (c.self.invariant.0, subst HasNoneTooMany (sym c.new.ensur
 pub returns-in-Ok : goal.returns-in-Ok
 returns-in-Ok c =
     let framed : Framed (take c.in-Ok.message.length c.self.inside.held.items) c.in-Ok.message
-    = subst (λ (l : List ℕ). Framed (take c.in-Ok.message.length l) c.in-Ok.message) c.as_slice.ensures c.in-Ok.ensures.found.1 in
+    = subst (λ (l : List ℕ). Framed (take c.in-Ok.message.length l) c.in-Ok.message) c.as_slice.ensures.value c.in-Ok.ensures.found.1 in
     let whole : Framed c.self.inside.held.items c.in-Ok.message = all_of_it c.self.inside.held.items c.in-Ok.message.length c.in-Ok.message c.self.invariant.1 framed in
     (rw c.new.ensures (ap (λ w. let empty : State = record w { held = [] } in empty) c.self.view_is), subst (λ (l : List ℕ). Framed l c.in-Ok.message) (ap (λ w. w.held) c.self.view_is) whole)

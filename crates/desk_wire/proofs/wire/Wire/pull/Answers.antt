@@ -1,6 +1,6 @@
 use Rattle.std.proofs.Common.{rules, refl, ap, ◌∙◌}
 use Rattle.net_link.specs.declared.net.Came.TheVariants as came
-use Rattle.desk_wire.proofs.ArriveLemmas.{ArrivesBut-trans}
+use Rattle.net_link.proofs.KeepsLemmas.{Keeps-less, Keeps-none, KeepsBut-next}
 use Rattle.desk_wire.proofs.PullLemmas.{Meanwhile-next, Meanwhile-none, pulling-ends, Pulls-bad-after, Pulls-memory-after, Pulls-next, Pulls-whole-after}
 use Rattle.desk_wire.proofs.wire.Wire.pull.Goals as goal
 
@@ -9,10 +9,7 @@ pulling-init g c = record {
   kept = refl;
   comes = Meanwhile-none _ _ _ _ _;
   later = search rules;
-  opens = search rules;
-  numbers = search rules;
-  arrives = search rules;
-  stays_ended = search rules;
+  keeps = Keeps-less c.args.self.now.stream (Keeps-none _ _ _ _ _ _);
 }
 
 pub pulling-smaller : goal.pulling-smaller
@@ -25,11 +22,7 @@ pulling-preserved g c = record {
       (g.N.Net.inbox c.pull_some.new.net) (g.N.Net.has_ended c.pull_some.new.net) c.pulling.invariant.kept c.in-Short.ensures.0 c.in-Got.ensures.grows c.in-Got.ensures.within
       c.in-Got.ensures.told c.in-Got.ensures.inbox c.pulling.invariant.comes;
   later = search rules;
-  opens = search rules;
-  numbers = search rules;
-  arrives = λ t. ArrivesBut-trans c.args.self.now.stream c.judge.new.self.stream (g.N.Net.is_open c.args.net.now) (g.N.Net.is_open c.pulling.net) (g.N.Net.inbox c.args.net.now) (g.N.Net.inbox c.pulling.net) (g.N.Net.inbox c.pull_some.new.net)
-      (ap (λ w. w.stream) c.in-Short.ensures.0 ∙ ap (λ w. w.stream) c.pulling.invariant.kept) c.pulling.invariant.opens (c.pulling.invariant.arrives t) (c.in-Got.ensures.arrives t);
-  stays_ended = search rules;
+  keeps = KeepsBut-next (ap (λ w. w.stream) c.in-Short.ensures.0 ∙ ap (λ w. w.stream) c.pulling.invariant.kept) c.pulling.invariant.keeps c.in-Got.ensures.keeps;
 }
 
 pub returns-in-NotYet-clause-takes : goal.returns-in-NotYet-clause-takes
@@ -67,3 +60,19 @@ returns-in-Bad-clause-takes g c =
 pub returns-in-Memory-clause-takes : goal.returns-in-Memory-clause-takes
 returns-in-Memory-clause-takes g c =
     Pulls-memory-after _ _ _ c.pulling.self.held _ _ _ _ _ _ c.pulling.invariant.comes c.in-Memory.ensures.1 (ap (λ w. w.held) c.in-Memory.ensures.0)
+
+pub returns-in-NotYet-clause-keeps : goal.returns-in-NotYet-clause-keeps
+returns-in-NotYet-clause-keeps g c =
+    KeepsBut-next (ap (λ w. w.stream) c.in-Short.ensures.0 ∙ ap (λ w. w.stream) c.pulling.invariant.kept) c.pulling.invariant.keeps c.in-NotYet.ensures.keeps
+
+pub returns-in-End-clause-keeps : goal.returns-in-End-clause-keeps
+returns-in-End-clause-keeps g c =
+    KeepsBut-next (ap (λ w. w.stream) c.in-Short.ensures.0 ∙ ap (λ w. w.stream) c.pulling.invariant.kept) c.pulling.invariant.keeps c.in-End.ensures.keeps
+
+pub returns-in-Failed-clause-keeps : goal.returns-in-Failed-clause-keeps
+returns-in-Failed-clause-keeps g c =
+    KeepsBut-next (ap (λ w. w.stream) c.in-Short.ensures.0 ∙ ap (λ w. w.stream) c.pulling.invariant.kept) c.pulling.invariant.keeps c.in-Failed.ensures.keeps
+
+pub returns-in-Memory-pull_some-clause-keeps : goal.returns-in-Memory-pull_some-clause-keeps
+returns-in-Memory-pull_some-clause-keeps g c =
+    KeepsBut-next (ap (λ w. w.stream) c.in-Short.ensures.0 ∙ ap (λ w. w.stream) c.pulling.invariant.kept) c.pulling.invariant.keeps c.in-Memory-pull_some.ensures.keeps

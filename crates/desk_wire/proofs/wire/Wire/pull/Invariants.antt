@@ -1,6 +1,5 @@
 use Rattle.std.proofs.Common.{◌≤◌, ◌-◌, length}
-use Rattle.net_link.specs.Inbox.{ArrivesBut}
-use Rattle.net_link.specs.Streams.{KeepsOpen, StaysEnded}
+use Rattle.net_link.specs.Keeps.{Keeps, all_but_inbox_of}
 use Rattle.desk_wire.proofs.PullLemmas.{Meanwhile, SameBut}
 use Rattle.desk_wire.proofs.wire.Wire.pull.Given as goal
 
@@ -11,10 +10,7 @@ invariant-pulling g l = record {
   comes : Meanwhile g.N.Net.tells l.fn.self.stream l.fn.self.held l.self.held (g.N.Net.history l.fn.net) (g.N.Net.history l.net)
       (g.N.Net.inbox l.fn.net l.fn.self.stream) (g.N.Net.inbox l.net l.fn.self.stream);
   later : g.N.Net.faults l.fn.net ≤ g.N.Net.faults l.net;
-  opens : KeepsOpen (g.N.Net.is_open l.fn.net) (g.N.Net.is_open l.net);
-  numbers : g.N.Net.next l.fn.net ≤ g.N.Net.next l.net;
-  arrives : g.N.Net.tells → ArrivesBut l.fn.self.stream (g.N.Net.is_open l.fn.net) (g.N.Net.inbox l.fn.net) (g.N.Net.inbox l.net);
-  stays_ended : g.N.Net.tells → StaysEnded (g.N.Net.has_ended l.fn.net) (g.N.Net.has_ended l.net);
+  keeps : Keeps (all_but_inbox_of l.fn.self.stream) g.N.Net.tells g.N.Net.is_open g.N.Net.next g.N.Net.inbox g.N.Net.has_ended l.fn.net l.net;
 }
 
 -- How many more bytes a message may have.

@@ -1,6 +1,5 @@
 use Rattle.std.proofs.Common.{◌≤◌, length}
-use Rattle.net_link.specs.Inbox.{Arrives}
-use Rattle.net_link.specs.Streams.{KeepsOpen, StaysEnded}
+use Rattle.net_link.specs.Keeps.{Keeps, all}
 use Rattle.desk_wire.specs.Push.{Pushes}
 use Rattle.desk_wire.specs.declared.answers.Pushed.TheVariants as pushed
 use Rattle.desk_wire.proofs.PushLemmas.{SameBut}
@@ -12,10 +11,7 @@ invariant-pushing g l = record {
   kept : SameBut l.fn.self l.self;
   sends : Pushes g.N.Net.tells l.fn.self.stream l.fn.self.unsent l.self.unsent (g.N.Net.history l.fn.net) (g.N.Net.history l.net) pushed.Memory;
   later : g.N.Net.faults l.fn.net ≤ g.N.Net.faults l.net;
-  opens : KeepsOpen (g.N.Net.is_open l.fn.net) (g.N.Net.is_open l.net);
-  numbers : g.N.Net.next l.fn.net ≤ g.N.Net.next l.net;
-  arrives : g.N.Net.tells → Arrives (g.N.Net.is_open l.fn.net) (g.N.Net.inbox l.fn.net) (g.N.Net.inbox l.net);
-  stays_ended : g.N.Net.tells → StaysEnded (g.N.Net.has_ended l.fn.net) (g.N.Net.has_ended l.net);
+  keeps : Keeps all g.N.Net.tells g.N.Net.is_open g.N.Net.next g.N.Net.inbox g.N.Net.has_ended l.fn.net l.net;
 }
 
 abbrev pub decreases-pushing : goal.decreases-pushing

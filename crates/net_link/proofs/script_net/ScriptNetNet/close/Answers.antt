@@ -1,7 +1,7 @@
-use Rattle.std.proofs.Common.{ap, arith}
+use Rattle.std.proofs.Common.{◌≡◌, ap, arith, refl}
 use Rattle.std.proofs.lemmas.List.{get_or_read}
-use Rattle.net_link.specs.Script.{gone, IsLive, IsLive-below}
-use Rattle.net_link.proofs.ScriptLemmas.{IsSound-shut, KeepsOpenBut-set, ArrivesBut-set, StaysEnded-shut, IsLive-shut, live_count-positive}
+use Rattle.net_link.specs.Script.{gone, line_at, shut, IsLive, IsLive-below}
+use Rattle.net_link.proofs.ScriptLemmas.{IsSound-shut, IsLive-shut, Keeps-shut, live_count-positive}
 use Rattle.net_link.proofs.script_net.ScriptNetNet.close.Goals as goal
 
 pub note_kept-requires : goal.note_kept-requires
@@ -16,18 +16,13 @@ invariant_of-self c =
     rw (c.shut.ensures, get_or_read c.self.inside.lines.items c.args.stream c.index_mut-line.result.now there c.index_mut-line.ensures.value gone)
     (IsSound-shut c.self.inside.lines.items c.args.stream c.self.inside.log c.note_kept.new.self live c.self.invariant c.note_kept.ensures.events c.note_kept.ensures.kept)
 
-pub returns-clause-opens : goal.returns-clause-opens
-returns-clause-opens c = rw (← ap (λ s. s.lines) c.self.view_is) (KeepsOpenBut-set c.self.inside.lines.items c.args.stream c.shut.new.self)
-
-pub returns-clause-arrives : goal.returns-clause-arrives
-returns-clause-arrives c = rw (← ap (λ s. s.lines) c.self.view_is) (ArrivesBut-set c.self.inside.lines.items c.args.stream c.shut.new.self)
-
-pub returns-clause-stays_ended : goal.returns-clause-stays_ended
-returns-clause-stays_ended c =
+pub returns-clause-keeps : goal.returns-clause-keeps
+returns-clause-keeps c =
     let live : IsLive c.self.inside.lines.items c.args.stream = rw (ap (λ s. s.lines) c.self.view_is) c.requires in
     let there = IsLive-below c.self.inside.lines.items c.args.stream live in
-    rw (← ap (λ s. s.lines) c.self.view_is, c.shut.ensures, get_or_read c.self.inside.lines.items c.args.stream c.index_mut-line.result.now there c.index_mut-line.ensures.value gone)
-    (StaysEnded-shut c.self.inside.lines.items c.args.stream)
+    let line : c.shut.new.self ≡ shut (line_at c.self.inside.lines.items c.args.stream) =
+    rw (c.shut.ensures, get_or_read c.self.inside.lines.items c.args.stream c.index_mut-line.result.now there c.index_mut-line.ensures.value gone) refl in
+    Keeps-shut c.args.stream c.args.self.now _ (rw (← ap (λ s. s.lines) c.self.view_is, line) refl)
 
 pub returns-clause-closed : goal.returns-clause-closed
 returns-clause-closed c =

@@ -1,27 +1,24 @@
 use Rattle.std.proofs.Common.{◌≡◌, ◌∙◌, [], true, false, sym, length, take, eqb-true}
 use Rattle.net_link.specs.Script.{Ends, IsLive-below, line_at, piece_size, unread}
-use Rattle.net_link.proofs.ScriptLemmas.{ArrivesBut-read, KeepsOpen-read, ReadsInbox-given, StaysEnded-read, front-nil, length-front, take-length-take}
+use Rattle.net_link.proofs.ScriptLemmas.{Adds-read, Keeps-read, ReadsInbox-given, front-nil, length-front, take-length-take}
 use Rattle.net_link.proofs.script_net.ScriptNetNet.read.Goals as goal
 
 pub give-requires-clause-front : goal.give-requires-clause-front
 give-requires-clause-front c =
     let line = line_at c.args.self.now.lines c.args.stream in
-    let copied : c.in-Ok-take.bytes ≡ c.front-front.result.now = c.in-Ok-take.ensures in
+    let copied : c.in-Ok-take.bytes ≡ c.front-front.result.now = c.in-Ok-take.ensures.value in
     rw (copied, c.front-front.ensures) (take-length-take (piece_size (length c.args.into.now) line) line.left)
 
-pub returns-then-not-is_empty-clause-opens : goal.returns-then-not-is_empty-clause-opens
-returns-then-not-is_empty-clause-opens c = rw c.give.ensures.state (KeepsOpen-read c.args.stream c.give.new.into c.give.result c.args.self.now)
+pub returns-then-not-is_empty-clause-keeps : goal.returns-then-not-is_empty-clause-keeps
+returns-then-not-is_empty-clause-keeps c = rw c.give.ensures.state (Keeps-read c.args.stream c.give.new.into c.give.result c.args.self.now)
 
-pub returns-then-not-is_empty-clause-arrives : goal.returns-then-not-is_empty-clause-arrives
-returns-then-not-is_empty-clause-arrives c = rw c.give.ensures.state (ArrivesBut-read c.args.stream c.give.new.into c.give.result c.args.self.now)
-
-pub returns-then-not-is_empty-clause-stays_ended : goal.returns-then-not-is_empty-clause-stays_ended
-returns-then-not-is_empty-clause-stays_ended c = rw c.give.ensures.state (StaysEnded-read c.args.stream c.give.new.into c.give.result c.args.self.now)
+pub returns-then-not-is_empty-clause-told : goal.returns-then-not-is_empty-clause-told
+returns-then-not-is_empty-clause-told c = rw c.give.ensures.state (Adds-read c.args.stream c.give.new.into c.give.result c.args.self.now)
 
 pub returns-then-not-is_empty-clause-inbox : goal.returns-then-not-is_empty-clause-inbox
 returns-then-not-is_empty-clause-inbox c =
     let line = line_at c.args.self.now.lines c.args.stream in
-    let copied : c.in-Ok-take.bytes ≡ c.front-front.result.now = c.in-Ok-take.ensures in
+    let copied : c.in-Ok-take.bytes ≡ c.front-front.result.now = c.in-Ok-take.ensures.value in
     let front : c.in-Ok-take.bytes ≡ take (length c.in-Ok-take.bytes) line.left =
     rw (copied, c.front-front.ensures) (take-length-take (piece_size (length c.args.into.now) line) line.left) in
     let given = IsLive-below c.args.self.now.lines c.args.stream c.requires.is_open in
@@ -29,7 +26,7 @@ returns-then-not-is_empty-clause-inbox c =
 
 pub returns-then-not-is_empty-clause-most : goal.returns-then-not-is_empty-clause-most
 returns-then-not-is_empty-clause-most c n got =
-    let copied : c.in-Ok-take.bytes ≡ c.front-front.result.now = c.in-Ok-take.ensures in
+    let copied : c.in-Ok-take.bytes ≡ c.front-front.result.now = c.in-Ok-take.ensures.value in
     let given = rw got at c.give.ensures.given in
     given.0 ∙ rw (copied, c.front-front.ensures) (length-front (length c.args.into.now) (line_at c.args.self.now.lines c.args.stream))
 

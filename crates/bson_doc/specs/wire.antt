@@ -1,0 +1,6 @@
+pub mod Limits
+pub mod Kinds
+pub mod Spelling
+pub mod Spelled
+pub mod Reading
+pub mod Meaning

@@ -1,0 +1,161 @@
+/* A loopback server for the measurement of inserts: answers each hello as a standalone server does, each insert by
+ * {n: 1, ok: 1.0} and any other command by {ok: 1.0}, and keeps nothing. One thread, with epoll(7). It ends when its
+ * standard input does.
+ *
+ * usage: insert_peer PORT_FILE */
+#define _GNU_SOURCE
+#include <arpa/inet.h>
+#include <netinet/in.h>
+#include <netinet/tcp.h>
+#include <stdint.h>
+#include <stdio.h>
+#include <stdlib.h>
+#include <string.h>
+#include <sys/epoll.h>
+#include <sys/socket.h>
+#include <unistd.h>
+
+#define ROOM 65536
+#define OP_REPLY 1
+#define OP_QUERY 2004
+#define OP_MSG 2013
+
+struct connection {
+  int fd;
+  size_t held;
+  unsigned char bytes[ROOM];
+};
+
+static unsigned char hello[512], inserted[64], accepted[64];
+
+static uint32_t number(const unsigned char *at) {
+  return at[0] | at[1] << 8 | at[2] << 16 | (uint32_t) at[3] << 24;
+}
+
+static unsigned char *put(unsigned char *at, uint32_t n) {
+  for (int i = 0; i < 4; i++) at[i] = n >> 8 * i;
+  return at + 4;
+}
+
+static unsigned char *field(unsigned char *at, int kind, const char *name, uint64_t value, int size) {
+  *at++ = kind;
+  at = (unsigned char *) stpcpy((char *) at, name) + 1;
+  for (int i = 0; i < size; i++) at[i] = value >> 8 * i;
+  return at + size;
+}
+
+static unsigned char *ok(unsigned char *at) {
+  return field(at, 1, "ok", 0x3ff0000000000000, 8);
+}
+
+static void close_document(unsigned char *front, unsigned char *end) {
+  *end = 0;
+  put(front, end + 1 - front);
+}
+
+static void make_answers(void) {
+  unsigned char *at = hello + 4;
+  at = field(at, 8, "ismaster", 1, 1);
+  at = field(at, 8, "isWritablePrimary", 1, 1);
+  at = field(at, 16, "maxBsonObjectSize", 16777216, 4);
+  at = field(at, 16, "maxMessageSizeBytes", 48000000, 4);
+  at = field(at, 16, "maxWriteBatchSize", 100000, 4);
+  at = field(at, 16, "minWireVersion", 0, 4);
+  at = field(at, 16, "maxWireVersion", 13, 4);
+  at = field(at, 8, "readOnly", 0, 1);
+  close_document(hello, ok(at));
+  close_document(inserted, ok(field(inserted + 4, 16, "n", 1, 4)));
+  close_document(accepted, ok(accepted + 4));
+}
+
+/* The answer's document, by the name of the command's first element. A document begins with its length and a type. */
+static const unsigned char *answer_to(const unsigned char *document) {
+  const char *name = (const char *) document + 5;
+  if (!strcmp(name, "insert")) return inserted;
+  return strcasecmp(name, "ismaster") && strcmp(name, "hello") ? accepted : hello;
+}
+
+/* Writes the reply to one whole message, and says how long it is; 0 where the message is none that is answered. */
+static size_t reply_to(const unsigned char *message, size_t size, unsigned char *out) {
+  uint32_t opcode = number(message + 12);
+  const unsigned char *body;
+  unsigned char *at = out + 16;
+  if (opcode == OP_QUERY) {
+    const unsigned char *name_end = memchr(message + 20, 0, size - 20);
+    if (!name_end) return 0;
+    body = name_end + 9;
+    at = put(put(put(put(put(at, 8), 0), 0), 0), 1);
+  } else if (opcode == OP_MSG) {
+    body = message + 21;
+    at = put(at, 0);
+    *at++ = 0;
+  } else {
+    return 0;
+  }
+  if (body + 5 >= message + size || !memchr(body + 5, 0, message + size - body - 5)) return 0;
+  const unsigned char *document = answer_to(body);
+  memcpy(at, document, number(document));
+  at += number(document);
+  put(put(put(put(out, at - out), 1), number(message + 4)), opcode == OP_QUERY ? OP_REPLY : OP_MSG);
+  return at - out;
+}
+
+/* Reads what has come and answers each whole message. Says whether the connection goes on. */
+static int serve(struct connection *of) {
+  unsigned char out[1024];
+  ssize_t got = recv(of->fd, of->bytes + of->held, ROOM - of->held, 0);
+  size_t from = 0;
+  if (got <= 0) return 0;
+  of->held += got;
+  while (of->held - from >= 16) {
+    size_t size = number(of->bytes + from), length;
+    if (size < 26 || size > ROOM) return 0;
+    if (of->held - from < size) break;
+    length = reply_to(of->bytes + from, size, out);
+    if (length == 0 || send(of->fd, out, length, MSG_NOSIGNAL) != (ssize_t) length) return 0;
+    from += size;
+  }
+  memmove(of->bytes, of->bytes + from, of->held - from);
+  of->held -= from;
+  return 1;
+}
+
+static void watch(int set, int fd, void *what) {
+  struct epoll_event event = {.events = EPOLLIN, .data.ptr = what};
+  if (epoll_ctl(set, EPOLL_CTL_ADD, fd, &event)) exit(1);
+}
+
+int main(int argc, char **argv) {
+  static char input;
+  struct sockaddr_in address = {.sin_family = AF_INET, .sin_addr.s_addr = htonl(INADDR_LOOPBACK)};
+  socklen_t length = sizeof address;
+  int listener = socket(AF_INET, SOCK_STREAM, 0), set = epoll_create1(0), on = 1;
+  FILE *port = argc == 2 ? fopen(argv[1], "w") : NULL;
+  if (!port || bind(listener, (void *) &address, length) || listen(listener, 1024)) return 1;
+  if (getsockname(listener, (void *) &address, &length)) return 1;
+  make_answers();
+  watch(set, listener, NULL);
+  watch(set, 0, &input);
+  fprintf(port, "%d", ntohs(address.sin_port));
+  fclose(port);
+  for (;;) {
+    struct epoll_event ready[64];
+    int count = epoll_wait(set, ready, 64, -1);
+    for (int i = 0; i < count; i++) {
+      struct connection *of = ready[i].data.ptr;
+      if ((void *) of == &input) {
+        if (read(0, &input, 1) <= 0) return 0;
+      } else if (of == NULL) {
+        int fd = accept(listener, NULL, NULL);
+        if (fd < 0 || !(of = malloc(sizeof *of))) continue;
+        setsockopt(fd, IPPROTO_TCP, TCP_NODELAY, &on, sizeof on);
+        of->fd = fd;
+        of->held = 0;
+        watch(set, fd, of);
+      } else if (!serve(of)) {
+        close(of->fd);
+        free(of);
+      }
+    }
+  }
+}

@@ -4,7 +4,7 @@ use Rattle.std.specs.Prelude.{ℤ, pos, slice_get, slice_set, nat_le, All}
 use Rattle.std.specs.Ordering.{int_eq}
 use Rattle.std.proofs.lemmas.Bool.{leb-false, lt-leb}
 use Rattle.std.proofs.lemmas.Bool.Decides.{eqb_tells}
-use Rattle.std.proofs.lemmas.List.{length-append, length-take-le}
+use Rattle.std.proofs.lemmas.List.{append-nil, length-append, length-take-le}
 use Rattle.std.proofs.lemmas.Option.{slice_get_within, slice_get-get_or}
 use Rattle.std.proofs.Math.ListN.{get_or}
 use Rattle.bson_doc.specs.declared.ids.Lsid.{Lsid}
@@ -12,6 +12,7 @@ use Rattle.sess_book.specs.declared.session.Session.{Session}
 use Rattle.sess_book.specs.declared.session.Kept.{Kept}
 use Rattle.sess_book.specs.declared.session.Holding.{Holding}
 use Rattle.sess_book.specs.declared.session.Holding.TheVariants as holding
+use Rattle.sess_book.specs.Entries.{kept_again}
 use Rattle.sess_book.specs.Inside.{IsSound, IsFree, is_out, leases_out}
 use Rattle.sess_book.specs.Sessions.{Sessions, MOST, has_minute_left, micros_of, newest, is_kept}
 use Rattle.sess_book.proofs.ListLemmas.{length-set, slice_get-set_same, slice_get-set_other, slice_get-push, slice_get-take}
@@ -24,11 +25,16 @@ leases_out-set [] i x y h = absurd (cc)
 leases_out-set (z ∷ zs) zero x y h = let same : z ≡ x = cc in subst (λ w. is_out y.holding + leases_out zs + is_out w.holding ≡ is_out z.holding + leases_out zs + is_out y.holding) same (omega arith)
 leases_out-set (z ∷ zs) (suc i) x y h = omega (arith, leases_out-set zs i x y h)
 
+pub leases_out-there : (xs : List Session) (i : ℕ) (x : Session) → slice_get xs i ≡ Some x → is_out x.holding ≤ leases_out xs
+leases_out-there [] i x h = absurd (cc)
+leases_out-there (z ∷ zs) zero x h = let same : z ≡ x = cc in subst (λ w. is_out w.holding ≤ is_out z.holding + leases_out zs) same (omega arith)
+leases_out-there (z ∷ zs) (suc i) x h = omega (arith, leases_out-there zs i x h)
+
 leases_out-push : (xs : List Session) (y : Session) → leases_out (xs ++ y ∷ []) ≡ leases_out xs + is_out y.holding
 leases_out-push [] y = omega arith
 leases_out-push (x ∷ xs) y = omega (arith, leases_out-push xs y)
 
-is_out-held : (h : Holding) → h ≢ holding.Nobody → is_out h ≡ 1
+pub is_out-held : (h : Holding) → h ≢ holding.Nobody → is_out h ≡ 1
 is_out-held holding.Nobody n = absurd (n refl)
 is_out-held holding.Leased n = refl
 is_out-held holding.Drawn n = refl
@@ -173,6 +179,10 @@ kept-sound s place x moment sound there held late left =
       apart = omega (arith, is_out-held x.holding held, length-set s.made place y, leases_out-set s.made place x y there, length-append s.kept (new ∷ []), sound.apart);
     }
 
+no_number_left : (dirty : Bool) → is_kept dirty MOST ≡ true → ⊥
+no_number_left true e = absurd (cc)
+no_number_left false e = absurd (cc)
+
 -- ---- Time
 
 -- where the newest kept session has no minute left, none has
@@ -186,3 +196,15 @@ none_left s minutes moment sound last_lacks i d within =
     let before = sound.order i n a z (slice_get-get_or s.kept i d within) there (omega (arith, within)) in
     let lacks = leb-false (moment + 60000000) (z.last_use + micros_of minutes) (last_lacks z there) in
     lt-leb (moment + 60000000) (a.last_use + micros_of minutes) (omega (arith, before, lacks))
+
+-- a session that is given back, kept or not
+pub returned-sound : (s : Sessions) (place : ℕ) (x : Session) (moment : ℕ) (kept : Bool) → IsSound s → slice_get s.made place ≡ Some x → x.holding ≢ holding.Nobody → s.last ≤ moment →
+    (kept ≡ true → x.number ≢ MOST) →
+    IsSound (record { made = slice_set s.made place (record x { holding = holding.Nobody }); kept = s.kept ++ kept_again kept place moment; last = moment })
+returned-sound s place x moment true sound there held late left = kept-sound s place x moment sound there held late (left refl)
+returned-sound s place x moment false sound there held late left =
+    subst (λ ks. IsSound (record { made = slice_set s.made place (record x { holding = holding.Nobody }); kept = ks; last = moment })) (sym (append-nil s.kept)) (dropped-sound s place x moment sound there held late)
+
+-- a session that is kept has a number left
+pub is_kept-left : (dirty : Bool) (number : ℤ) → is_kept dirty number ≡ true → number ≢ MOST
+is_kept-left dirty number kept e = absurd (let b : is_kept dirty MOST ≡ true = subst (λ n. is_kept dirty n ≡ true) e kept in no_number_left dirty b)

@@ -38,6 +38,10 @@ set_at made place (Some x) f = slice_set made place (f x)
 abbrev pub with_session : List Session → ℕ → (Session → Session) → List Session
 with_session made place f = set_at made place (slice_get made place) f
 
+-- A session that is given back, where it is kept.
+abbrev pub kept_again : Bool → ℕ → ℕ → List Kept
+kept_again kept place moment = if kept then record { place = place; last_use = moment } ∷ [] else []
+
 -- The sessions behind an entry. A lease drops the kept sessions that have less than a minute left, which are all of them where
 -- none is leased again.
 abbrev pub after : Sessions → ℕ → SessEntry → Sessions
@@ -55,7 +59,7 @@ after s moment (Drew place number) =
     record s { made = with_session s.made place (λ x. record x { number = number; holding = holding.Drawn }) }
 after s moment (Returned place dirty kept) = record {
   made = with_session s.made place (λ x. record x { holding = holding.Nobody });
-  kept = s.kept ++ (if kept then record { place = place; last_use = moment } ∷ [] else []);
+  kept = s.kept ++ kept_again kept place moment;
   last = moment;
 }
 

@@ -6,7 +6,7 @@ ghost use Rattle.sess_book.specs.Ids.{id_of};
 ghost use Rattle.sess_book.specs.Sessions.{has_minute_left, newest, no_sessions};
 
 use crate::ids::fresh_id;
-use crate::made::{draw_at, hold_at};
+use crate::made::{draw_at, hold_at, keep_if};
 use crate::rules::{has_minute_left as is_minute_left, is_kept};
 use crate::{Holding, Kept, Lease, Leased, Memory, Pair, Session};
 use bson_doc::Lsid;
@@ -152,12 +152,7 @@ impl SessBook {
         let place = lease.place;
         let kept = is_kept(dirty, self.made[place].number);
         hold_at(&mut self.made, place, Holding::Nobody);
-        if kept {
-            self.kept.push_reserved(Kept {
-                place,
-                last_use: moment,
-            });
-        }
+        keep_if(kept, &mut self.kept, place, moment);
         self.last = moment;
         kept
     }

@@ -38,7 +38,7 @@ invariant_of-self-2 c = record {
 
 -- the place of the new session
 place_now : (c : goal.After-self-1) → c.len-place.result ≡ length c.self.inside.made.items
-place_now c = c.len-place.ensures ∙ ap length c.reserve-2.ensures.items
+place_now c = let e = ap length c.reserve-2.ensures.items in let l = c.len-place.ensures in grind (arith, e, l)
 
 pub returns-clause-answer : goal.returns-clause-answer
 returns-clause-answer c =

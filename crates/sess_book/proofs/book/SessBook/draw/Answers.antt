@@ -1,10 +1,11 @@
 use Rattle.std.proofs.Common.{◌≡◌, ◌≢◌, Some, length, refl, sym, ◌∙◌, ap, subst, arith}
 use Rattle.std.specs.Prelude.{slice_get}
+use Rattle.std.proofs.lemmas.Int.{to_z-of_z}
 use Rattle.sess_book.specs.Inside.{IsSound, sessions_of}
 use Rattle.sess_book.specs.Sessions.{is_used, MOST}
 use Rattle.sess_book.proofs.ListLemmas.{length-set}
 use Rattle.sess_book.proofs.SoundLemmas.{drew-sound}
-use Rattle.sess_book.proofs.BookLemmas.{is_used-set, with_session-there}
+use Rattle.sess_book.proofs.BookLemmas.{is_used-set, drew-goes}
 use Rattle.sess_book.proofs.book.SessBook.draw.Goals as goal
 
 pub draw_at-number-requires : goal.draw_at-number-requires
@@ -31,4 +32,9 @@ invariant_of-self c =
     }
 
 pub returns-clause-goes : goal.returns-clause-goes
-returns-clause-goes c = record { stands = ?; moves = ? }
+returns-clause-goes c =
+    let x = c.requires.session in
+    let there = session_there c in
+    let drew = drew-goes (sessions_of c.self.inside) c.args.self.now c.self.view_is c.args.lease.now.place x c.draw_at-number.result c.draw_at-number.new.made.items
+        there c.requires.held (c.draw_at-number.ensures.number x there) (c.draw_at-number.ensures.made x there) in
+    grind (arith, to_z-of_z, drew)

@@ -1,13 +1,13 @@
 -- What a book keeps (own: the refinement).
 use Rattle.std.specs.Prelude.{◌≡◌, ◌≢◌, ◌≤◌, ℕ, ◌+◌, List, [], ◌∷◌, Some, length, vec_capacity, slice_get}
 use Rattle.std.specs.BTreeSet.{contains}
+use Rattle.bson_doc.specs.Ids.{lsid_cmp}
 use Rattle.bson_doc.specs.declared.ids.Lsid.{Lsid}
 use Rattle.sess_book.specs.declared.book.SessBook.TheInside.{Inside}
 use Rattle.sess_book.specs.declared.session.Session.{Session}
 use Rattle.sess_book.specs.declared.session.Kept.{Kept}
 use Rattle.sess_book.specs.declared.session.Holding.{Holding}
 use Rattle.sess_book.specs.declared.session.Holding.TheVariants as holding
-use Rattle.sess_book.specs.Ids.{lsid_cmp}
 use Rattle.sess_book.specs.Sessions.{Sessions, MOST, is_used}
 
 -- The sessions that a book stands for.

@@ -3,3 +3,5 @@ pub mod Sessions
 pub mod Entries
 pub mod Inside
 pub mod Answers
+pub mod Laws
+pub mod Ending

@@ -1,15 +1,17 @@
 ghost use Rattle.std.specs.Prelude.{◌≡◌, ◌≢◌, ◌≤◌, true, false, IfOk, OnErr, Some};
 ghost use Rattle.entry_judge.specs.Groups.{Goes};
 ghost use Rattle.sess_book.specs.Answers.{Answers, IsOf, IsHeld};
+ghost use Rattle.sess_book.specs.Ending.{IsParted, kept_ids};
 ghost use Rattle.sess_book.specs.Entries.{Drew, Made, Reused, Returned, sessions_judge};
 ghost use Rattle.sess_book.specs.Ids.{id_of};
 ghost use Rattle.sess_book.specs.Sessions.{has_minute_left, newest, no_sessions};
 
 use crate::ids::fresh_id;
+use crate::ending::{ids_of, parted};
 use crate::made::{draw_at, hold_at, keep_if};
 use crate::rules::{has_minute_left as is_minute_left, is_kept};
 use crate::{Holding, Kept, Lease, Leased, Memory, Pair, Session};
-use bson_doc::Lsid;
+use bson_doc::{Lsid, Rows};
 use std::alloc::Global;
 use std::collections::BTreeSet;
 use std::marker::Model;
@@ -155,5 +157,14 @@ impl SessBook {
         keep_if(kept, &mut self.kept, place, moment);
         self.last = moment;
         kept
+    }
+
+    /// The ids of the kept sessions, for the endSessions commands that end them: in the order in which they were given back,
+    /// in lists of 10,000 of which the last may have fewer (Driver Sessions, endSessions).
+    pub fn ending(&self, alloc: Global) -> Result<Rows<Rows<Lsid>>, Memory>
+        ensures { IfOk result (λ lists. IsParted lists (kept_ids self.now)) }
+    {
+        let ids = ids_of(alloc, self.made.as_slice(), self.kept.as_slice())?;
+        parted(alloc, ids.as_slice())
     }
 }

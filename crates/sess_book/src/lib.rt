@@ -10,6 +10,7 @@
 #![tactic(auto)]
 
 mod book;
+mod ending;
 mod ids;
 pub mod laws;
 mod lease;

@@ -1,7 +1,8 @@
 //! BSON values in memory: texts, lists, names, values and documents.
 //!
-//! The kinds of [`Value`] are those of the BSON standard (bsonspec.org, version 1.1), all of them. How they are spelled in
-//! bytes is the crate `bson_wire`'s matter.
+//! The kinds of [`Value`] are those of the BSON standard (bsonspec.org, version 1.1), all of them. Which bytes spell a
+//! document is defined here (`specs/wire`: `Spells`, and the first fault of bytes, a [`BsonFault`]), since whatever reads
+//! bytes cites it; the crate `bson_wire` reads and writes them.
 //!
 //! A [`Document`] is plain data: its public field `elements` is the list of its pairs of name and value, and contracts
 //! compare documents by `≡`. [`Text`], [`Rows`] and [`Bytes`] are `String` and `Vec` that contracts see as lists, so
@@ -9,8 +10,9 @@
 //! beside its items. A [`Name`] is a text without a zero byte. [`Oid`], [`Lsid`], [`TopologyVersion`] and [`ClusterTime`]
 //! are what servers and sessions are told apart and ordered by.
 //!
-//! Begin with [`Document::new`], add pairs by [`Document::push`], and read them by [`Document::get`] and
-//! [`Document::at`]. Every call that allocates takes an allocator first and answers [`Memory`] where it gets none.
+//! Begin with [`Document::new`], add pairs by [`Document::put`] or [`Document::push`], read them by [`Document::get`] and
+//! [`Document::at`], and compare documents by [`Document::same`]. Every call that allocates takes an allocator and
+//! answers [`Memory`] where it gets none.
 #![tactic(auto)]
 
 mod bson_fault;

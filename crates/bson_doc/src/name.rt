@@ -67,7 +67,8 @@ impl Name {
     pub fn from_str(alloc: Global, text: &str) -> Result<Name, NameFault>
         ensures value { IfOk result (λ n. (n ≡ text.now) × HasNoZero text.now) }
         ensures zero { (at : ℕ) → position (λ b. b == 0) text.now ≡ Some at → result ≡ Err (NameFault.HasNul at) }
-        ensures fault { IfErr result (λ e. e ≢ NameFault.Memory → (at : ℕ) × (e ≡ NameFault.HasNul at) × (position (λ b. b == 0) text.now ≡ Some at)) }
+        ensures fault { IfErr result (λ e. e ≢ NameFault.Memory
+            → (at : ℕ) × (e ≡ NameFault.HasNul at) × (position (λ b. b == 0) text.now ≡ Some at)) }
     {
         if let Some(at) = first_zero(text.as_bytes()) {
             return Err(NameFault::HasNul { at });

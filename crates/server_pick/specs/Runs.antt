@@ -13,3 +13,8 @@ abbrev pub Runs : {S : Type 0} → (S → Candidate → Bool) → (S → Candida
 Runs allows follows from [] kept to = (kept ≡ []) × (to ≡ from)
 Runs {S} allows follows from (c ∷ cs) kept to =
     (next : S) × follows from c next × ((rest : List Candidate) × (kept ≡ answered (allows from c) c rest) × Runs allows follows next cs rest to)
+
+-- The states that may follow, of a picker whose type is not known: a state is a value beside what its type does, and that stays.
+abbrev pub follows_at : {V : Type 0} {D : V → Type 0} → ((p : (v : V) × D v) → Candidate → D p.0 → Type 0)
+    → ((v : V) × D v) → Candidate → ((v : V) × D v) → Type 0
+follows_at {V} {D} follows from c to = (next : D from.0) × follows from c next × (to ≡ (from.0, next))

@@ -1,13 +1,10 @@
-//! Scripts over nets and clocks in memory: what is printed, the status, and what went out. Expected bytes are worked by
-//! hand from the standards.
+//! The public call on its happy path, and a net of one's own in `waiting`. The crate `shell_cases` runs scripts over nets in
+//! memory. Expected bytes are worked by hand from the standards.
 
-mod replies;
-mod scripts;
 mod waiting;
 
-use crate::{Ended, Status, UseFault, run};
+use crate::{Ended, run};
 use bson_doc::{Bytes, Rows, Text};
-use host_name::HostFault;
 use net_link::{NetEvent, ScriptNet, SliceSource, StreamPlan, TickClock, VecSink};
 use std::alloc::Global;
 use std::sync::Wait;
@@ -24,69 +21,52 @@ const REQUEST: &[u8] =
 const REPLY: &[u8] =
     b"\x2d\0\0\0\x07\0\0\0\x01\0\0\0\xdd\x07\0\0\0\0\0\0\0\x18\0\0\0\x10n\0\x01\0\0\0\x01ok\0\0\0\0\0\0\0\xf0\x3f\0";
 
-/// The reply without its last byte.
-const FRONT: &[u8] =
-    b"\x2d\0\0\0\x07\0\0\0\x01\0\0\0\xdd\x07\0\0\0\0\0\0\0\x18\0\0\0\x10n\0\x01\0\0\0\x01ok\0\0\0\0\0\0\0\xf0\x3f";
-
-fn words(alloc: Global, all: &[&str]) -> Result<Rows<Text>, Fail> {
+/// The words of a run against one host.
+fn one_host(alloc: Global) -> Result<Rows<Text>, Fail> {
     let mut words = Rows::new(alloc);
-    for word in all {
+    for word in ["run", "127.0.0.1:27017", "-", "test"] {
         words.push(Text::take(alloc, word)?)?;
     }
     Ok(words)
 }
 
-/// The words of a run against one host.
-fn one_host(alloc: Global) -> Result<Rows<Text>, Fail> {
-    words(alloc, &["run", "127.0.0.1:27017", "-", "test"])
+/// A source of the script, none of whose reads fails.
+fn source(alloc: Global) -> Result<SliceSource, Fail> {
+    Ok(SliceSource::new(Bytes::take(alloc, SCRIPT.as_bytes())?, Rows::new(alloc)))
 }
 
-/// A source of a script, none of whose reads fails.
-fn source(alloc: Global, script: &str) -> Result<SliceSource, Fail> {
-    Ok(SliceSource::new(Bytes::take(alloc, script.as_bytes())?, Rows::new(alloc)))
-}
-
-/// Runs the script of one insert over a net with one scripted stream, and a clock that goes on by `step` at each look.
+/// Runs the script over a net with one stream, which gives the reply.
 fn over_script<R: Wait>(
     rt: &R,
     alloc: Global,
-    words: &Rows<Text>,
-    reply: &[u8],
-    most: u32,
-    ends: bool,
-    fails: u64,
-    step: u64,
     out: &mut VecSink,
 ) -> Result<Ended<ScriptNet>, Fail> {
     let mut plans = Rows::new(alloc);
     plans.push(StreamPlan {
-        bytes: Bytes::take(alloc, reply)?,
-        most,
-        ends,
+        bytes: Bytes::take(alloc, REPLY)?,
+        most: 4096,
+        ends: false,
     })?;
-    let mut failing = Rows::new(alloc);
-    failing.push(fails)?;
-    let net = ScriptNet::new(alloc, plans, failing);
-    let clock = TickClock::new(0, step);
-    let mut script = source(alloc, SCRIPT)?;
-    Ok(run(rt, alloc, words, &mut script, out, net, &clock))
+    let net = ScriptNet::new(alloc, plans, Rows::new(alloc));
+    let clock = TickClock::new(0, 1_000_000);
+    let words = one_host(alloc)?;
+    Ok(run(rt, alloc, &words, &mut source(alloc)?, out, net, &clock))
 }
 
 #[test]
 fn the_request_goes_out_whole_and_the_stream_is_closed(rt: HostRuntime) -> Result<(), Fail> {
     let alloc = rt.alloc();
-    let words = one_host(alloc)?;
     let mut out = VecSink::new(alloc, 4096, Rows::new(alloc))?;
-    let ended = over_script(
-        &rt, alloc, &words, REPLY, 4096, false, 0, 1_000_000, &mut out,
-    )?;
+    let ended = over_script(&rt, alloc, &mut out)?;
+    assert_eq!(rt; ended.status.code(), 0);
+    assert_eq!(rt;
+        out.written(),
+        b"1: ok n=1 modified=0 attempts=1\ndone 1 ok 1\n".as_slice()
+    );
     let mut sent = 0u32;
     let mut closed = 0u32;
     for event in ended.net.events() {
         match event {
-            NetEvent::Dialled { address, .. } => {
-                assert_eq!(rt; address.as_str(), "127.0.0.1:27017");
-            }
             NetEvent::Out { bytes, .. } => {
                 assert_eq!(rt; bytes.as_slice(), REQUEST);
                 sent = sent.saturating_add(1);
@@ -96,68 +76,5 @@ fn the_request_goes_out_whole_and_the_stream_is_closed(rt: HostRuntime) -> Resul
         }
     }
     assert_eq!(rt; (sent, closed), (1, 1));
-    Ok(())
-}
-
-/// The fault of words that are refused.
-fn use_fault(status: &Status) -> Option<UseFault> {
-    match status {
-        Status::Usage(fault) => Some(*fault),
-        _ => None,
-    }
-}
-
-#[test]
-fn words_that_are_refused_dial_nothing(rt: HostRuntime) -> Result<(), Fail> {
-    let alloc = rt.alloc();
-    let refused: [(&[&str], UseFault); 16] = [
-        (&[], UseFault::Words),
-        (&["insert", "h:1", "d", "c", "1"], UseFault::Words),
-        (&["run", "h:1", "-"], UseFault::Words),
-        (&["run", "h:1", "-", "d", "e"], UseFault::Words),
-        (&["Run", "h:1", "-", "d"], UseFault::Words),
-        (&["--help"], UseFault::Words),
-        (&["run", "h:1", "", "d"], UseFault::Words),
-        (&["run", "h:1", "-", ""], UseFault::Words),
-        (&["run", "h:1", "-", "d\0"], UseFault::Words),
-        (&["run", "h:1,i:1", "", "d"], UseFault::Words),
-        (&["run", "h:1,i:1", "-", "d"], UseFault::Later),
-        (&["run", "h:1", "rs0", "d"], UseFault::Later),
-        (&["run", "h:0,", "-", "d"], UseFault::Later),
-        (&["run", "", "-", "d"], UseFault::Host(HostFault::Empty)),
-        (
-            &["run", "h:70000", "-", "d"],
-            UseFault::Host(HostFault::Port),
-        ),
-        (
-            &["run", "[::1", "-", "d"],
-            UseFault::Host(HostFault::Bracket),
-        ),
-    ];
-    for (all, fault) in refused {
-        let mut out = VecSink::new(alloc, 4096, Rows::new(alloc))?;
-        let words = words(alloc, all)?;
-        let ended = over_script(
-            &rt, alloc, &words, REPLY, 4096, false, 0, 1_000_000, &mut out,
-        )?;
-        assert_eq!(rt; use_fault(&ended.status), Some(fault), "{all:?}");
-        assert_eq!(rt; ended.status.code(), 2);
-        assert_eq!(rt; ended.net.events().len(), 0, "{all:?}");
-        assert_eq!(rt; out.written().len(), 0, "{all:?}");
-    }
-    Ok(())
-}
-
-#[test]
-fn an_output_that_fails_is_told(rt: HostRuntime) -> Result<(), Fail> {
-    let alloc = rt.alloc();
-    let words = one_host(alloc)?;
-    let mut out = VecSink::new(alloc, 10, Rows::new(alloc))?;
-    let ended = over_script(
-        &rt, alloc, &words, REPLY, 4096, false, 0, 1_000_000, &mut out,
-    )?;
-    assert_eq!(rt; ended.status.code(), 5);
-    assert_eq!(rt; out.written(), b"1: ok n=1 ".as_slice());
-    assert_eq!(rt; ended.shots.len(), 1);
     Ok(())
 }

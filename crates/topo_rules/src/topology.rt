@@ -70,6 +70,30 @@ impl Topology {
         self.kind
     }
 
+    /// The name of the replica set; none where none was given or learned yet (SDAM, TopologyDescription: setName).
+    pub fn set_name(&self) -> Option<&str>
+        ensures value { option_copied result ≡ self.now.set_name }
+    {
+        match &self.set_name {
+            Some(name) => Some(name.as_str()),
+            None => None,
+        }
+    }
+
+    /// The greatest election that the topology took over from a primary (SDAM, TopologyDescription: maxElectionId).
+    pub fn max_election(&self) -> Option<Oid>
+        ensures value { result ≡ self.now.max_election }
+    {
+        self.max_election
+    }
+
+    /// The set version that the topology took over from a primary (SDAM, TopologyDescription: maxSetVersion).
+    pub fn max_set_version(&self) -> Option<i64>
+        ensures value { result ≡ self.now.max_set_version }
+    {
+        self.max_set_version
+    }
+
     /// What is known of the server at a host; none where it is not in the topology.
     pub fn find(&self, host: &Host) -> Option<&ServerDescription>
         ensures { option_copied result ≡ map.get self.now.servers host.now }

@@ -3,10 +3,10 @@
 ghost use Rattle.std.specs.Prelude.{◌≡◌, ◌<◌, []};
 ghost use Rattle.net_link.specs.Causes.{count_of-below};
 
-use super::{FRONT, REPLY, REQUEST, SCRIPT, one_host, over_script, source};
+use super::{REPLY, REQUEST, one_host, source};
 use crate::{ShotEnd, run};
 use bson_doc::{Bytes, Rows};
-use net_link::{Came, Clock, Dialed, Net, NetEvent, TickClock, VecSink, Wrote};
+use net_link::{Came, Clock, Dialed, Net, TickClock, VecSink, Wrote};
 use std::alloc::Global;
 use std::sync::Wait;
 use std::test::Fail;
@@ -100,14 +100,27 @@ impl Clock for StillClock {
     fn rest(&self, _micros: u64) {}
 }
 
-/// Runs the script of one insert over a slow net, and answers what went out and how the shot ended.
+/// What a run over a slow net left.
+#[derive(Drop)]
+struct Left {
+    /// The number that the program ends with.
+    code: u8,
+    /// What was written.
+    out: VecSink,
+    /// What went out.
+    sent: Bytes,
+    /// How the shot ended.
+    end: Option<ShotEnd>,
+}
+
+/// Runs the script of one insert over a slow net.
 fn over_slow<R: Wait, C: Clock>(
     rt: &R,
     alloc: Global,
     clock: &C,
     full: u32,
     dry: u32,
-) -> Result<(Bytes, Option<ShotEnd>), Fail> {
+) -> Result<Left, Fail> {
     let mut out = VecSink::new(alloc, 4096, Rows::new(alloc))?;
     let net = SlowNet {
         dialled: 0,
@@ -117,67 +130,42 @@ fn over_slow<R: Wait, C: Clock>(
         out: Rows::new(alloc),
         given: 0,
     };
-    let mut script = source(alloc, SCRIPT)?;
-    let ended = run(
-        rt,
-        alloc,
-        &one_host(alloc)?,
-        &mut script,
-        &mut out,
-        net,
-        clock,
-    );
+    let words = one_host(alloc)?;
+    let ended = run(rt, alloc, &words, &mut source(alloc)?, &mut out, net, clock);
     let end = ended.shots.as_slice().first().map(|shot| shot.end);
-    Ok((ended.net.out, end))
+    Ok(Left {
+        code: ended.status.code(),
+        out,
+        sent: ended.net.out,
+        end,
+    })
 }
 
+/// Nothing is taken, and the clock goes on.
 #[test]
-fn the_limit_decides_where_the_net_says_not_yet(rt: HostRuntime) -> Result<(), Fail> {
-    let alloc = rt.alloc();
+fn a_net_that_takes_nothing_is_late(rt: HostRuntime) -> Result<(), Fail> {
     let ticks = TickClock::new(0, 1_000_000);
-    // Nothing is taken, and the clock goes on.
-    let (sent, end) = over_slow(&rt, alloc, &ticks, u32::MAX, 0)?;
-    assert_eq!(rt; sent.len(), 0);
-    assert_eq!(rt; end, Some(ShotEnd::TimedOut));
-    // The clock stands still: each second write takes a byte, and the thousandth read has the reply's first.
-    let (sent, end) = over_slow(&rt, alloc, &StillClock, 1, 999)?;
-    assert_eq!(rt; sent.as_slice(), REQUEST);
-    assert_eq!(rt; end, Some(ShotEnd::Replied));
+    let left = over_slow(&rt, rt.alloc(), &ticks, u32::MAX, 0)?;
+    assert_eq!(rt; left.code, 1);
+    assert_eq!(rt;
+        left.out.written(),
+        b"1: late attempts=1\ndone 1 ok 0\n".as_slice()
+    );
+    assert_eq!(rt; left.sent.len(), 0);
+    assert_eq!(rt; left.end, Some(ShotEnd::TimedOut));
     Ok(())
 }
 
+/// The clock stands still: each second write takes a byte, and the thousandth read has the reply's first.
 #[test]
-fn a_reply_that_stops_in_the_middle_is_late(rt: HostRuntime) -> Result<(), Fail> {
-    let alloc = rt.alloc();
-    let mut out = VecSink::new(alloc, 4096, Rows::new(alloc))?;
-    let ended = over_script(
-        &rt,
-        alloc,
-        &one_host(alloc)?,
-        FRONT,
-        7,
-        false,
-        0,
-        1_000_000,
-        &mut out,
-    )?;
-    let mut came = Bytes::new(alloc);
-    for event in ended.net.events() {
-        if let NetEvent::Came { bytes, .. } = event {
-            for byte in bytes.as_slice() {
-                came.push(*byte)?;
-            }
-        }
-    }
-    assert_eq!(rt; came.as_slice(), FRONT);
-    let last = ended.net.events().iter().rev().take(2);
-    for (event, wanted) in last.zip(["closed", "dry"]) {
-        let told = match event {
-            NetEvent::Closed { .. } => "closed",
-            NetEvent::Dry { .. } => "dry",
-            _ => "another",
-        };
-        assert_eq!(rt; told, wanted);
-    }
+fn no_net_is_late_where_the_clock_stands(rt: HostRuntime) -> Result<(), Fail> {
+    let left = over_slow(&rt, rt.alloc(), &StillClock, 1, 999)?;
+    assert_eq!(rt; left.code, 0);
+    assert_eq!(rt;
+        left.out.written(),
+        b"1: ok n=1 modified=0 attempts=1\ndone 1 ok 1\n".as_slice()
+    );
+    assert_eq!(rt; left.sent.as_slice(), REQUEST);
+    assert_eq!(rt; left.end, Some(ShotEnd::Replied));
     Ok(())
 }

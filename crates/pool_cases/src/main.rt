@@ -1,0 +1,21 @@
+//! The program `pool_cases`: case files of `wait_line` and `pool_book`, the lines in which check-outs wait and the pools of
+//! connections.
+//!
+//! `pool_cases FILE..` runs the files as `case_files` says. Its steps are those of [`steps`], and their facts those of
+//! [`facts`].
+#![tactic(auto)]
+
+mod calls;
+mod facts;
+mod lines;
+mod state;
+mod steps;
+
+use case_files::run_files;
+use state::State;
+use std::io;
+use std::process::ExitCode;
+
+fn main(rt: HostRuntime) -> io::Result<ExitCode> {
+    run_files(&rt, &mut State::opened(rt.alloc()))
+}

@@ -1,0 +1,22 @@
+//! The program `shell_cases`: case files of `shell_top`, runs of scripts over a net and a clock in memory.
+//!
+//! `shell_cases FILE..` runs the files as `case_files` says. Its steps are those of [`steps`], and their facts those of
+//! [`facts`].
+#![tactic(auto)]
+
+mod events;
+mod facts;
+mod known;
+mod quoted;
+mod runs;
+mod state;
+mod steps;
+
+use case_files::run_files;
+use state::State;
+use std::io;
+use std::process::ExitCode;
+
+fn main(rt: HostRuntime) -> io::Result<ExitCode> {
+    run_files(&rt, &mut State::opened(&rt, rt.alloc()))
+}

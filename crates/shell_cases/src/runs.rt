@@ -1,0 +1,111 @@
+use crate::known::Known;
+use bson_doc::{Bytes, Rows, Text};
+use case_files::{CaseFault, Words, hex_bytes, parsed};
+use net_link::{ScriptNet, SliceSource, StreamPlan, TickClock, VecSink};
+use shell_top::{Ended, run};
+use std::alloc::Global;
+use std::sync::Wait;
+
+/// By how many microseconds the clock goes on at each look, where nothing is said.
+const STEP: u64 = 1_000_000;
+
+/// How many bytes a read hands out at most, and the report has at most, where nothing is said.
+const ROOM: u32 = 4_096;
+
+/// What a run left.
+#[derive(Drop)]
+pub struct Run {
+    /// The status, the net and the shots.
+    pub ended: Ended<ScriptNet>,
+    /// What was written.
+    pub out: VecSink,
+}
+
+/// Runs a script: `mdc WORD.. [script=NAME] [unreadable=N,..] [streams=NAME,..] [most=N] [fails=N,..] [step=N] [room=N]`.
+///
+/// The words are those of the command line; `""` is an empty one, and `hex:` stands ahead of one in hexadecimal. The script
+/// is the bytes of that name, of which the reads with these numbers fail. The k-th dial gets the k-th stream, which gives
+/// the bytes of that name, at most so many a read; where a point stands behind the name the peer ends behind them. Of the
+/// net's calls those with the numbers in `fails` fail. The clock begins at 0 and goes on by so many microseconds at each
+/// look. The report has room for so many bytes.
+pub fn ran<R: Wait>(
+    rt: &R,
+    alloc: Global,
+    known: &Known,
+    words: &mut Words<'_>,
+) -> Result<Run, CaseFault> {
+    let mut script = source(alloc, known, words)?;
+    let net = net(alloc, known, words)?;
+    let clock = TickClock::new(0, words.number(alloc, "step")?.unwrap_or(STEP));
+    let room: u32 = words.number(alloc, "room")?.unwrap_or(ROOM);
+    let mut out = VecSink::new(alloc, room as usize, Rows::new(alloc))?;
+    let line = command_line(alloc, words)?;
+    let ended = run(rt, alloc, &line, &mut script, &mut out, net, &clock);
+    Ok(Run { ended, out })
+}
+
+fn source(alloc: Global, known: &Known, words: &mut Words<'_>) -> Result<SliceSource, CaseFault> {
+    let bytes = match words.value("script") {
+        Some(name) => known.find(alloc, name)?,
+        None => Bytes::new(alloc),
+    };
+    let fails = numbers(alloc, words.value("unreadable"))?;
+    Ok(SliceSource::new(bytes, fails))
+}
+
+fn net(alloc: Global, known: &Known, words: &mut Words<'_>) -> Result<ScriptNet, CaseFault> {
+    let most = words.number(alloc, "most")?.unwrap_or(ROOM);
+    let fails = numbers(alloc, words.value("fails"))?;
+    let mut plans = Rows::new(alloc);
+    if let Some(names) = words.value("streams") {
+        for name in names.split(',') {
+            let (name, ends) = match name.strip_suffix('.') {
+                Some(name) => (name, true),
+                None => (name, false),
+            };
+            plans.push(StreamPlan {
+                bytes: known.find(alloc, name)?,
+                most,
+                ends,
+            })?;
+        }
+    }
+    Ok(ScriptNet::new(alloc, plans, fails))
+}
+
+/// The numbers between commas; none where there is no word.
+fn numbers(alloc: Global, word: Option<&str>) -> Result<Rows<u64>, CaseFault> {
+    let mut numbers = Rows::new(alloc);
+    if let Some(word) = word {
+        for number in word.split(',') {
+            numbers.push(parsed(alloc, number)?)?;
+        }
+    }
+    Ok(numbers)
+}
+
+/// The words of the command line, which are all that are left. One with a sign of equality is none of them.
+fn command_line(alloc: Global, words: &mut Words<'_>) -> Result<Rows<Text>, CaseFault> {
+    let mut line = Rows::new(alloc);
+    for word in words.rest(alloc) {
+        if word.contains('=') {
+            return Err(CaseFault::word(alloc, word));
+        }
+        line.push(argument(alloc, word)?)?;
+    }
+    Ok(line)
+}
+
+fn argument(alloc: Global, word: &str) -> Result<Text, CaseFault> {
+    if word == "\"\"" {
+        return Ok(Text::new(alloc));
+    }
+    let Some(hex) = word.strip_prefix("hex:") else {
+        return Ok(Text::take(alloc, word)?);
+    };
+    let bytes = hex_bytes(alloc, hex)?;
+    match std::str::from_utf8(bytes.as_slice()) {
+        Ok(text) => Ok(Text::take(alloc, text)?),
+        Err(_) => Err(CaseFault::form(alloc, word)),
+    }
+}

@@ -1,0 +1,84 @@
+//! The steps, each by its first word:
+//!
+//! - `bytes NAME WORD..` puts bytes behind those of the name, of texts in quotes and of hexadecimal digits;
+//! - `text NAME [times=N] [open] WORD..` puts the words there as a line, so many times, which ends with LF unless it is open;
+//! - `zeros NAME count=N letters=N` puts there the line of an insert whose document has an array of so many zeros and a text
+//!   of so many letters;
+//! - `mdc WORD..` runs a script, as [`ran`] says.
+use crate::known::Known;
+use crate::quoted::push_word;
+use crate::runs::ran;
+use crate::state::Told;
+use case_files::{CaseFault, Words, parsed};
+use std::alloc::Global;
+use std::sync::Wait;
+
+/// Takes the step of these words.
+pub fn step_of<R: Wait>(
+    rt: &R,
+    alloc: Global,
+    known: &mut Known,
+    words: &mut Words<'_>,
+) -> Result<Told, CaseFault> {
+    let verb = words.next_as("step")?;
+    if verb == "mdc" {
+        return Ok(Told::Ran(ran(rt, alloc, known, words)?));
+    }
+    let bytes_of = match verb {
+        "bytes" | "text" | "zeros" => words.next_as("name")?,
+        _ => return Err(CaseFault::word(alloc, verb)),
+    };
+    let bytes = match verb {
+        "bytes" => bytes(alloc, words)?,
+        "text" => text(alloc, words)?,
+        _ => zeros(alloc, words)?,
+    };
+    Ok(Told::Named(known.add(alloc, bytes_of, &bytes)?))
+}
+
+fn bytes(alloc: Global, words: &mut Words<'_>) -> Result<Vec<u8>, CaseFault> {
+    let mut bytes = Vec::new(alloc);
+    for word in words.rest(alloc) {
+        push_word(alloc, &mut bytes, word)?;
+    }
+    Ok(bytes)
+}
+
+fn text(alloc: Global, words: &mut Words<'_>) -> Result<Vec<u8>, CaseFault> {
+    let times: u16 = words.number(alloc, "times")?.unwrap_or(1);
+    let open = words.flag("open");
+    let mut line = Vec::new(alloc);
+    for word in words.rest(alloc) {
+        if !line.is_empty() {
+            line.push(b' ')?;
+        }
+        line.extend_from_slice(word.as_bytes())?;
+    }
+    if !open {
+        line.push(b'\n')?;
+    }
+    let mut lines = Vec::new(alloc);
+    for _ in 0..times {
+        lines.extend_from_slice(&line)?;
+    }
+    Ok(lines)
+}
+
+fn zeros(alloc: Global, words: &mut Words<'_>) -> Result<Vec<u8>, CaseFault> {
+    let count: u32 = parsed(alloc, words.must_value("count")?)?;
+    let letters: u32 = parsed(alloc, words.must_value("letters")?)?;
+    let mut line = Vec::new(alloc);
+    line.extend_from_slice(br#"{"lane":1,"op":"insert","coll":"a","doc":{"a":["#)?;
+    for place in 0..count {
+        if place > 0 {
+            line.push(b',')?;
+        }
+        line.push(b'0')?;
+    }
+    line.extend_from_slice(br#"],"b":""#)?;
+    for _ in 0..letters {
+        line.push(b'x')?;
+    }
+    line.extend_from_slice(b"\"}}\n")?;
+    Ok(line)
+}

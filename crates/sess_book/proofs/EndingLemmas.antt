@@ -7,7 +7,9 @@ use Rattle.std.proofs.lemmas.List.{append-nil, length-append}
 use Rattle.std.proofs.lemmas.List.Elements.{All-get_or}
 use Rattle.std.proofs.lemmas.Option.{slice_get_within, get_or_from_slice_get}
 use Rattle.bson_doc.specs.declared.ids.Lsid.{Lsid}
-use Rattle.sess_book.specs.Ending.{IsParted, MOST_IDS}
+use Rattle.sess_book.specs.declared.session.Session.{Session}
+use Rattle.sess_book.specs.declared.session.Kept.{Kept}
+use Rattle.sess_book.specs.Ending.{IsParted, MOST_IDS, id_at}
 use Rattle.sess_book.proofs.ListLemmas.{slice_get-push}
 
 cons_option-append : {Y : Type 0} (o : Option Y) (xs ys : List Y) → cons_option o (xs ++ ys) ≡ cons_option o xs ++ ys
@@ -26,6 +28,12 @@ filter_map_more f (y ∷ ys) (suc i) x at =
     let next : suc (i + 1) ≡ suc i + 1 = omega arith in
     subst (λ n. filter_map f (take n (y ∷ ys)) ≡ cons_option (f y) (filter_map f (take i ys)) ++ option_to_list (f x)) next
     (ap (λ zs. cons_option (f y) zs) (filter_map_more f ys i x at) ∙ cons_option-append (f y) (filter_map f (take i ys)) (option_to_list (f x)))
+
+-- the ids of one kept session more
+pub ids_more : (made : List Session) (kept : List Kept) (i : ℕ) (ids new : List Lsid) (x : Kept) → new ≡ ids ++ option_to_list (id_at made x) →
+    ids ≡ filter_map (id_at made) (take i kept) → slice_get kept i ≡ Some x → new ≡ filter_map (id_at made) (take (i + 1) kept)
+ids_more made kept i ids new x e so_far at =
+    e ∙ ap (λ m. m ++ option_to_list (id_at made x)) so_far ∙ sym (filter_map_more (id_at made) kept i x at)
 
 at-full : (lists : List (List Lsid)) → All (λ l. length l ≡ MOST_IDS) lists → (k : ℕ) (l : List Lsid) → slice_get lists k ≡ Some l → length l ≡ MOST_IDS
 at-full lists full k l at =

@@ -46,26 +46,26 @@ unused-at id (z ∷ zs) unused (suc i) x at same = unused-at id zs (rest (is_sam
 
 ids-push : (made : List Session) (id : Lsid) → IdsDiffer made → is_used id made ≡ false → IdsDiffer (made ++ new_session id ∷ [])
 ids-push made id differ unused i j x y at to same = elim (slice_get-push made (new_session id) i x at) [
-    | inl w ↦ elim (slice_get-push made (new_session id) j y to) [
-        | inl v ↦ differ i j x y w v same
-        | inr v ↦ absurd (unused-at id made unused i x w (same ∙ ap (λ z. z.lsid) (sym v.1)))
-      ]
-    | inr w ↦ elim (slice_get-push made (new_session id) j y to) [
-        | inl v ↦ absurd (unused-at id made unused j y v (sym same ∙ ap (λ z. z.lsid) (sym w.1)))
-        | inr v ↦ w.0 ∙ sym v.0
-      ]
+  | inl w ↦ elim (slice_get-push made (new_session id) j y to) [
+    | inl v ↦ differ i j x y w v same
+    | inr v ↦ absurd (unused-at id made unused i x w (same ∙ ap (λ z. z.lsid) (sym v.1)))
   ]
+  | inr w ↦ elim (slice_get-push made (new_session id) j y to) [
+    | inl v ↦ absurd (unused-at id made unused j y v (sym same ∙ ap (λ z. z.lsid) (sym w.1)))
+    | inr v ↦ w.0 ∙ sym v.0
+  ]
+]
 
 -- each session keeps its id where one changes
 lsid-set : (made : List Session) (place : ℕ) (x y : Session) → slice_get made place ≡ Some x → y.lsid ≡ x.lsid →
     (i : ℕ) (z : Session) → slice_get (slice_set made place y) i ≡ Some z → (w : Session) × (slice_get made i ≡ Some w) × (w.lsid ≡ z.lsid)
 lsid-set made place x y there same i z at = elim (eqb_tells i place) [
-    | inl w ↦
-        let here : slice_get (slice_set made place y) i ≡ Some y = subst (λ n. slice_get (slice_set made place y) n ≡ Some y) (sym w.1) (slice_get-set_same made place y x there) in
-        let one : y ≡ z = cc in
-        (x, subst (λ n. slice_get made n ≡ Some x) (sym w.1) there, sym same ∙ ap (λ v. v.lsid) one)
-    | inr w ↦ (z, sym (slice_get-set_other made place i y w.1) ∙ at, refl)
-  ]
+  | inl w ↦
+      let here : slice_get (slice_set made place y) i ≡ Some y = subst (λ n. slice_get (slice_set made place y) n ≡ Some y) (sym w.1) (slice_get-set_same made place y x there) in
+      let one : y ≡ z = cc in
+      (x, subst (λ n. slice_get made n ≡ Some x) (sym w.1) there, sym same ∙ ap (λ v. v.lsid) one)
+  | inr w ↦ (z, sym (slice_get-set_other made place i y w.1) ∙ at, refl)
+]
 
 ids-set : (made : List Session) (place : ℕ) (x y : Session) → IdsDiffer made → slice_get made place ≡ Some x → y.lsid ≡ x.lsid → IdsDiffer (slice_set made place y)
 ids-set made place x y differ there same i j a b at to e =
@@ -97,26 +97,26 @@ good-each s moment (Reused place minutes) good stands =
     let same = stands.1.2 in
     let there : slice_get s.made place ≡ Some x = subst (λ n. slice_get s.made n ≡ Some x) same free.1 in
     good-there s place x (λ z. record z { holding = holding.Leased }) _ moment there
-      (record {
-        sound = subst (λ n. IsSound (record { made = slice_set s.made n y; kept = _; last = moment })) same
-            (reused-sound s moment k x good.sound stands.0 stands.1.1 free.1 free.2 free.3);
-        differ = ids-set s.made place x y good.differ there refl;
-      })
+    (record {
+      sound = subst (λ n. IsSound (record { made = slice_set s.made n y; kept = _; last = moment })) same
+          (reused-sound s moment k x good.sound stands.0 stands.1.1 free.1 free.2 free.3);
+      differ = ids-set s.made place x y good.differ there refl;
+    })
 good-each s moment (Drew place number) good stands =
     let x = stands.0 in
     good-there s place x (λ z. record z { number = number; holding = holding.Drawn }) s.kept s.last stands.1
-      (record {
-        sound = drew-sound s place x number good.sound stands.1 stands.2;
-        differ = ids-set s.made place x (record x { number = number; holding = holding.Drawn }) good.differ stands.1 refl;
-      })
+    (record {
+      sound = drew-sound s place x number good.sound stands.1 stands.2;
+      differ = ids-set s.made place x (record x { number = number; holding = holding.Drawn }) good.differ stands.1 refl;
+    })
 good-each s moment (Returned place dirty kept) good stands =
     let x = stands.1.0 in
     let y : Session = record x { holding = holding.Nobody } in
     good-there s place x (λ z. record z { holding = holding.Nobody }) _ moment stands.1.1
-      (record {
-        sound = returned-sound s place x moment kept good.sound stands.1.1 stands.1.2 stands.0 (λ e. is_kept-left dirty x.number (sym stands.1.3 ∙ e));
-        differ = ids-set s.made place x y good.differ stands.1.1 refl;
-      })
+    (record {
+      sound = returned-sound s place x moment kept good.sound stands.1.1 stands.1.2 stands.0 (λ e. is_kept-left dirty x.number (sym stands.1.3 ∙ e));
+      differ = ids-set s.made place x y good.differ stands.1.1 refl;
+    })
 
 pub good-keeps : Keeps sessions_judge Good
 good-keeps = record { each = good-each }

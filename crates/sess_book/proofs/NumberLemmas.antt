@@ -41,15 +41,16 @@ zero_more n = omega arith
 drawn-set : (place : ℕ) (made : List Session) (n p : ℕ) (x y : Session) → slice_get made p ≡ Some x → y.number ≡ x.number → HasDrawn place made n →
     HasDrawn place (slice_set made p y) n
 unfolding HasDrawn
-drawn-set place made n p x y there same h =
-    (λ z at. elim (eqb_tells place p) [
-      | inl w ↦
-          let here : slice_get (slice_set made p y) place ≡ Some y = subst (λ m. slice_get (slice_set made p y) m ≡ Some y) (sym w.1) (slice_get-set_same made p y x there) in
-          let one : y ≡ z = cc in
-          ap (λ v. v.number) (sym one) ∙ same ∙ h.0 x (subst (λ m. slice_get made m ≡ Some x) (sym w.1) there)
-      | inr w ↦ h.0 z (sym (slice_get-set_other made p place y w.1) ∙ at)
-    ],
-    λ l. h.1 (let size = length-set made p y in omega (arith, size, l)))
+drawn-set place made n p x y there same h = (
+  λ z at. elim (eqb_tells place p) [
+    | inl w ↦
+        let here : slice_get (slice_set made p y) place ≡ Some y = subst (λ m. slice_get (slice_set made p y) m ≡ Some y) (sym w.1) (slice_get-set_same made p y x there) in
+        let one : y ≡ z = cc in
+        ap (λ v. v.number) (sym one) ∙ same ∙ h.0 x (subst (λ m. slice_get made m ≡ Some x) (sym w.1) there)
+    | inr w ↦ h.0 z (sym (slice_get-set_other made p place y w.1) ∙ at)
+  ],
+  λ l. h.1 (let size = length-set made p y in omega (arith, size, l)),
+)
 
 drawn-other : (place : ℕ) (made : List Session) (n p : ℕ) (y : Session) → (place ≡ p → ⊥) → HasDrawn place made n → HasDrawn place (slice_set made p y) n
 unfolding HasDrawn
@@ -60,12 +61,13 @@ drawn-other place made n p y apart h =
 drawn-next : (place : ℕ) (made : List Session) (n : ℕ) (x y : Session) → slice_get made place ≡ Some x → y.number ≡ x.number +ℤ pos 1 → HasDrawn place made n →
     HasDrawn place (slice_set made place y) (n + 1)
 unfolding HasDrawn
-drawn-next place made n x y there next h =
-    (λ z at.
+drawn-next place made n x y there next h = (
+  λ z at.
       let here = slice_get-set_same made place y x there in
       let one : y ≡ z = cc in
       ap (λ v. v.number) (sym one) ∙ next ∙ ap (λ m. m +ℤ pos 1) (h.0 x there),
-    λ l. let within = slice_get_within made place x there in let size = length-set made place y in absurd (omega (arith, within, size, l)))
+  λ l. let within = slice_get_within made place x there in let size = length-set made place y in absurd (omega (arith, within, size, l)),
+)
 
 -- a change that keeps the number
 changed : (place : ℕ) (made : List Session) (n p : ℕ) (x : Session) (f : Session → Session) → slice_get made p ≡ Some x → (f x).number ≡ x.number → HasDrawn place made n →
@@ -77,14 +79,15 @@ changed place made n p x f there same h =
 pub drawn-each : (place : ℕ) (s : Sessions) (moment : ℕ) (e : SessEntry) (n : ℕ) → HasDrawn place s.made n → MayStand s moment e → Good s →
     HasDrawn place (after s moment e).made (counted place n e)
 unfolding HasDrawn
-drawn-each place s moment (Made p lsid minutes) n h stands good =
-    (λ x at. elim (slice_get-push s.made (new_session lsid) place x at) [
-      | inl w ↦ h.0 x w ∙ ap pos (omega arith)
-      | inr w ↦
-          let none = h.1 (let at_end = w.0 in omega (arith, at_end)) in
-          ap (λ v. v.number) (sym w.1) ∙ ap pos (omega (arith, none))
-    ],
-    λ l. let none = h.1 (let size = length-append s.made (new_session lsid ∷ []) in omega (arith, size, l)) in omega (arith, none))
+drawn-each place s moment (Made p lsid minutes) n h stands good = (
+  λ x at. elim (slice_get-push s.made (new_session lsid) place x at) [
+    | inl w ↦ h.0 x w ∙ ap pos (omega arith)
+    | inr w ↦
+        let none = h.1 (let at_end = w.0 in omega (arith, at_end)) in
+        ap (λ v. v.number) (sym w.1) ∙ ap pos (omega (arith, none))
+  ],
+  λ l. let none = h.1 (let size = length-append s.made (new_session lsid ∷ []) in omega (arith, size, l)) in omega (arith, none),
+)
 drawn-each place s moment (Reused p minutes) n h stands good =
     let k = stands.1.0 in
     let free = good.sound.free _ k stands.1.1 in
@@ -123,8 +126,8 @@ drawn-history ts l place =
     let none = KeepsOwed-legal sessions_judge Good (λ s owed. owed ≡ []) owes_nothing no_sessions [] ts good-first refl l in
     let all = Reads-trail sessions_judge Good (λ s n. HasDrawn place s.made n) (counted place) (numbers place) no_sessions ts 0 good-first (none_drawn place) l in
     subst (λ n. HasDrawn place p.state.made n)
-      (ap (λ owed. state_after (counted place) 0 (entries_of ts ++ owed)) none ∙ ap (state_after (counted place) 0) (append-nil (entries_of ts)) ∙ state_after-counted place 0 (entries_of ts) ∙ zero_plus (draws place (entries_of ts)))
-      all
+    (ap (λ owed. state_after (counted place) 0 (entries_of ts ++ owed)) none ∙ ap (state_after (counted place) 0) (append-nil (entries_of ts)) ∙ state_after-counted place 0 (entries_of ts) ∙ zero_plus (draws place (entries_of ts)))
+    all
 
 -- what is drawn at a place of a history is one more than that
 pub drawn-at : (ts : List (Timed SessEntry)) → IsHistory ts → (k moment place : ℕ) (number : ℤ) →

@@ -59,12 +59,12 @@ numbers-set : (made : List Session) → ((i : ℕ) (x : Session) → slice_get m
     (place : ℕ) (x y : Session) → slice_get made place ≡ Some x → (y.holding ≡ holding.Leased → y.number ≢ MOST) →
     (i : ℕ) (z : Session) → slice_get (slice_set made place y) i ≡ Some z → z.holding ≡ holding.Leased → z.number ≢ MOST
 numbers-set made all place x y there new i z at leased = elim (eqb_tells i place) [
-    | inl w ↦
-        let here : slice_get (slice_set made place y) i ≡ Some y = subst (λ n. slice_get (slice_set made place y) n ≡ Some y) (sym w.1) (slice_get-set_same made place y x there) in
-        let one : y ≡ z = cc in
-        subst (λ v. v.number ≢ MOST) one (new (subst (λ v. v.holding ≡ holding.Leased) (sym one) leased))
-    | inr w ↦ all i z (sym (slice_get-set_other made place i y w.1) ∙ at) leased
-  ]
+  | inl w ↦
+      let here : slice_get (slice_set made place y) i ≡ Some y = subst (λ n. slice_get (slice_set made place y) n ≡ Some y) (sym w.1) (slice_get-set_same made place y x there) in
+      let one : y ≡ z = cc in
+      subst (λ v. v.number ≢ MOST) one (new (subst (λ v. v.holding ≡ holding.Leased) (sym one) leased))
+  | inr w ↦ all i z (sym (slice_get-set_other made place i y w.1) ∙ at) leased
+]
 
 -- ---- The entries
 
@@ -153,23 +153,23 @@ kept-sound s place x moment sound there held late left =
       ];
       once = λ i j a b at to same. elim (cases i a at) [
         | inl w ↦ elim (cases j b to) [
-            | inl v ↦ sound.once i j a b w v same
-            | inr v ↦ absurd (not_new i a w (same ∙ ap (λ c. c.place) (sym v.1)))
-          ]
+          | inl v ↦ sound.once i j a b w v same
+          | inr v ↦ absurd (not_new i a w (same ∙ ap (λ c. c.place) (sym v.1)))
+        ]
         | inr w ↦ elim (cases j b to) [
-            | inl v ↦ absurd (not_new j b v (sym same ∙ ap (λ c. c.place) (sym w.1)))
-            | inr v ↦ w.0 ∙ sym v.0
-          ]
+          | inl v ↦ absurd (not_new j b v (sym same ∙ ap (λ c. c.place) (sym w.1)))
+          | inr v ↦ w.0 ∙ sym v.0
+        ]
       ];
       order = λ i j a b at to below. elim (cases i a at) [
         | inl w ↦ elim (cases j b to) [
-            | inl v ↦ sound.order i j a b w v below
-            | inr v ↦ let before = sound.past i a w in let at_last : moment ≡ b.last_use = ap (λ c. c.last_use) v.1 in omega (arith, before, late, at_last)
-          ]
+          | inl v ↦ sound.order i j a b w v below
+          | inr v ↦ let before = sound.past i a w in let at_last : moment ≡ b.last_use = ap (λ c. c.last_use) v.1 in omega (arith, before, late, at_last)
+        ]
         | inr w ↦ elim (cases j b to) [
-            | inl v ↦ let inside = slice_get_within s.kept j b v in let at_end = w.0 in absurd (omega (arith, inside, at_end, below))
-            | inr v ↦ let one : moment ≡ a.last_use = ap (λ c. c.last_use) w.1 in let other : moment ≡ b.last_use = ap (λ c. c.last_use) v.1 in omega (arith, one, other)
-          ]
+          | inl v ↦ let inside = slice_get_within s.kept j b v in let at_end = w.0 in absurd (omega (arith, inside, at_end, below))
+          | inr v ↦ let one : moment ≡ a.last_use = ap (λ c. c.last_use) w.1 in let other : moment ≡ b.last_use = ap (λ c. c.last_use) v.1 in omega (arith, one, other)
+        ]
       ];
       past = λ i a at. elim (cases i a at) [
         | inl w ↦ let before = sound.past i a w in omega (arith, before, late)

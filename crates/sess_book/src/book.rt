@@ -6,8 +6,8 @@ ghost use Rattle.sess_book.specs.Entries.{Drew, Made, Reused, Returned, sessions
 ghost use Rattle.sess_book.specs.Ids.{id_of};
 ghost use Rattle.sess_book.specs.Sessions.{has_minute_left, newest, no_sessions};
 
-use crate::ids::fresh_id;
 use crate::ending::{ids_of, parted};
+use crate::ids::fresh_id;
 use crate::made::{draw_at, hold_at, keep_if};
 use crate::rules::{has_minute_left as is_minute_left, is_kept};
 use crate::{Holding, Kept, Lease, Leased, Memory, Pair, Session};
@@ -61,13 +61,7 @@ impl SessBook {
     /// `minutes` without use. The newest kept session is leased again where it has a minute left; else one is made, with the
     /// id of the two words, and kept ones are dropped, since they have less. Where that id was used before the answer is
     /// `Repeated`, and nothing changes. It makes the room that [`SessBook::give_back`] needs.
-    pub fn take(
-        &mut self,
-        moment: u64,
-        minutes: i64,
-        w1: u64,
-        w2: u64,
-    ) -> Result<Leased, Memory>
+    pub fn take(&mut self, moment: u64, minutes: i64, w1: u64, w2: u64) -> Result<Leased, Memory>
         requires { self.old.last ≤ moment }
         ensures answer { IfOk result (λ leased. Answers self.old moment minutes (id_of w1 w2) leased self.new) }
         ensures err { OnErr result (self.new ≡ self.old) }

@@ -11,7 +11,7 @@ use std::mem::replace;
 const MOST: usize = 10_000;
 
 /// The ids of the kept sessions, in the order in which they were given back.
-#[tactic(auto, using(crate::proofs::EndingLemmas::filter_map_more))]
+
 pub(crate) fn ids_of(alloc: Global, made: &[Session], kept: &[Kept]) -> Result<Rows<Lsid>, Memory>
     ensures { IfOk result (λ ids. ids ≡ filter_map (id_at made.now) kept.now) }
 {

@@ -36,5 +36,5 @@ returns-clause-goes c =
     let x = c.requires.session in
     let there = session_there c in
     let drew = drew-goes (sessions_of c.self.inside) c.args.self.now c.self.view_is c.args.lease.now.place x c.draw_at-number.result c.draw_at-number.new.made.items
-        there c.requires.held (c.draw_at-number.ensures.number x there) (c.draw_at-number.ensures.made x there) in
+    there c.requires.held (c.draw_at-number.ensures.number x there) (c.draw_at-number.ensures.made x there) in
     grind (arith, to_z-of_z, drew)

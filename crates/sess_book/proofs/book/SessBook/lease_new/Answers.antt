@@ -12,9 +12,12 @@ use Rattle.sess_book.proofs.BookLemmas.{new_session, is_used-push, made-goes}
 use Rattle.sess_book.proofs.book.SessBook.lease_new.Goals as goal
 
 pub returns-then-contains-clause-answer : goal.returns-then-contains-clause-answer
-returns-then-contains-clause-answer c =
-    (refl, ap (λ s. is_used c.args.lsid s.made) (sym c.self.view_is) ∙ sym (c.self.invariant.index c.args.lsid) ∙ sym c.contains.ensures ∙ c.if-contains.true,
-    none_left c.args.self.now c.args.minutes c.args.moment (subst (λ s. IsSound s) c.self.view_is c.self.invariant.sound) c.requires.left, refl)
+returns-then-contains-clause-answer c = (
+  refl,
+  ap (λ s. is_used c.args.lsid s.made) (sym c.self.view_is) ∙ sym (c.self.invariant.index c.args.lsid) ∙ sym c.contains.ensures ∙ c.if-contains.true,
+  none_left c.args.self.now c.args.minutes c.args.moment (subst (λ s. IsSound s) c.self.view_is c.self.invariant.sound) c.requires.left,
+  refl,
+)
 
 -- the sessions that were made, with the new one
 made_now : (c : goal.After-self-1) → c.push_reserved.new.self.items ≡ c.self.inside.made.items ++ new_session c.args.lsid ∷ []
@@ -47,14 +50,17 @@ returns-clause-answer c =
     let unused : is_used c.args.lsid c.self.inside.made.items ≡ false = sym (c.self.invariant.index c.args.lsid) ∙ sym c.contains.ensures ∙ c.if-contains.false in
     let late = subst (λ x. x.last ≤ c.args.moment) (sym c.self.view_is) c.requires.late in
     let lacks = subst (λ x. (k : Kept) → newest x ≡ Some k → has_minute_left c.args.minutes c.args.moment k ≡ false) (sym c.self.view_is) c.requires.left in
-    let goes = made-goes s t c.args.moment c.args.minutes c.args.lsid c.self.invariant.sound late unused lacks (sessions_now c) in
-    ((refl,
-    subst (λ x. Goes sessions_judge x c.args.moment (Made c.len-place.result c.args.lsid c.args.minutes) t) c.self.view_is
-      (subst (λ n. Goes sessions_judge s c.args.moment (Made n c.args.lsid c.args.minutes) t) (sym (place_now c)) goes)),
-    record {
-      session = new_session c.args.lsid;
-      there = ap (λ m. slice_get m c.len-place.result) (made_now c)
-          ∙ ap (λ n. slice_get (c.self.inside.made.items ++ new_session c.args.lsid ∷ []) n) (place_now c)
-          ∙ slice_get-pushed c.self.inside.made.items (new_session c.args.lsid);
-      same = refl;
-    })
+    let goes = made-goes s t c.args.moment c.args.minutes c.args.lsid c.self.invariant.sound late unused lacks (sessions_now c) in (
+      (
+        refl,
+        subst (λ x. Goes sessions_judge x c.args.moment (Made c.len-place.result c.args.lsid c.args.minutes) t) c.self.view_is
+            (subst (λ n. Goes sessions_judge s c.args.moment (Made n c.args.lsid c.args.minutes) t) (sym (place_now c)) goes),
+      ),
+      record {
+        session = new_session c.args.lsid;
+        there = ap (λ m. slice_get m c.len-place.result) (made_now c)
+            ∙ ap (λ n. slice_get (c.self.inside.made.items ++ new_session c.args.lsid ∷ []) n) (place_now c)
+            ∙ slice_get-pushed c.self.inside.made.items (new_session c.args.lsid);
+        same = refl;
+      },
+    )

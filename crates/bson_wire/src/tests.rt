@@ -1,5 +1,4 @@
 //! Each public call on its happy path. The crate `wire_cases` runs tables of documents, their bytes and hostile bytes.
-use crate::kind::Kind;
 use crate::{decode, encode, size};
 use bson_doc::{Document, Name, Text, Value};
 use std::alloc::Global;
@@ -25,13 +24,4 @@ fn both_ways(rt: HostRuntime) -> Result<(), Fail> {
     assert_eq!(rt; count, 12);
     assert!(rt; matches!(read.get("a"), Some(Value::Int32(7))));
     Ok(())
-}
-
-#[test]
-fn type_bytes_both_ways(rt: HostRuntime) {
-    for byte in 0..=255u8 {
-        if let Some(kind) = Kind::of_byte(byte) {
-            assert_eq!(rt; kind.byte(), byte);
-        }
-    }
 }

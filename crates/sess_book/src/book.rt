@@ -122,6 +122,16 @@ impl SessBook {
         }))
     }
 
+    /// Whether a lease is one of this book's that is not given back, and whether it has drawn; `Nobody` where it is none.
+    pub fn holding(&self, lease: &Lease) -> Holding
+        ensures { result ≢ Holding.Nobody → IsHeld self.now lease.now result }
+    {
+        match self.made.get(lease.place) {
+            Some(session) if session.lsid == lease.lsid => session.holding,
+            _ => Holding::Nobody,
+        }
+    }
+
     /// Draws the lease's transaction number: one more than its session's last. The lease is one of this book's, is not given
     /// back, and has not drawn.
     pub fn draw(&mut self, lease: &mut Lease) -> Pair

@@ -1,0 +1,6 @@
+pub mod ListLemmas
+pub mod SoundLemmas
+pub mod BookLemmas
+pub mod LawLemmas
+pub mod NumberLemmas
+pub mod EndingLemmas

@@ -1,7 +1,7 @@
 //! Read preferences: Server Selection, Read Preference.
 //!
 //! A [`ReadPref`] has a [`Mode`] and a list of tag sets. A [`TagSet`] is a list of [`Tag`]s, each with a name and a value.
-//! Which servers a preference lets in is the crate `server_pick`'s matter.
+//! Which servers a preference lets in is decided in the layer above.
 //!
 //! Begin with [`ReadPref::new`], which refuses tags beside the mode primary; [`Mode::from_name`] reads a mode as connection
 //! strings, scripts and commands name it, and [`Mode::name`] names it so.

@@ -131,6 +131,9 @@ fn step(alloc: Global, book: &mut TopoBook, line: &str) -> Result<String, Fail> 
 
 fn opened(alloc: Global) -> Result<TopoBook, Fail> {
     let hosts = vec![in alloc; Host::parse(alloc, "a")?, Host::parse(alloc, "b")?]?;
+    if !Topology::may_start(alloc, hosts.as_slice(), false)? {
+        return Err(Fail::from("no hosts to start with"));
+    }
     let topology = Topology::start(alloc, hosts.as_slice(), None, false)?;
     Ok(TopoBook::new(alloc, topology))
 }

@@ -30,7 +30,7 @@ static CHANGES: [(&str, &str); 27] = [
     ("reply c Secondary set=rs hosts=b,c", "ready=c clear=- true"),
     ("reply d Arbiter set=rs hosts=b,c", "ready=- clear=- true"),
     ("reply d Arbiter set=rs hosts=c,b", "ready=- clear=- true"),
-    // The old primary is forgotten and its pool is not cleared.
+    // Of the old primary a default Unknown stands, and its pool is not cleared.
     (
         "reply c Primary set=rs hosts=b,c,e,a e=2 v=2",
         "+a +e -d ready=c clear=- true",

@@ -69,6 +69,9 @@ pub fn start(alloc: Global, line: &str) -> Result<Topology, Fail> {
     if hosts.len() > 100 {
         return Err(Fail::from("too many hosts"));
     }
+    if !Topology::may_start(alloc, hosts.as_slice(), direct)? {
+        return Err(Fail::from("no hosts to start with"));
+    }
     let topology = Topology::start(alloc, hosts.as_slice(), set_name, direct)?;
     Ok(topology)
 }

@@ -92,14 +92,14 @@ fn first_has_version(topology: &Topology) -> bool {
     }
 }
 
-/// A refusal keeps its topology version, but not in a Single topology with a set name.
+/// A refusal keeps its topology version, also in a Single topology with a set name.
 #[test]
 fn refusals_keep_versions(rt: HostRuntime) -> Result<(), Fail> {
     for (line, kept) in &[
         ("start a", true),
         ("start a direct", true),
         ("start a set=rs", true),
-        ("start a direct set=rs", false),
+        ("start a direct set=rs", true),
     ] {
         let mut topology = start(rt.alloc(), line)?;
         step(rt.alloc(), &mut topology, "refused a counter=5")?;

@@ -329,7 +329,7 @@ static WITH_PRIMARY: [(&str, &str); 38] = [
         "reply b Primary set=rs hosts=a,b e=4 v=2",
         "WithPrimary rs e4 v2 a=Unknown b=Primary",
     ),
-    // Another primary is forgotten.
+    // Of another primary a default Unknown stands.
     (
         "reply a Primary set=rs hosts=a,b e=5 v=2",
         "WithPrimary rs e5 v2 a=Primary b=Unknown",

@@ -140,7 +140,10 @@ fn hosts(alloc: Global, measure: Measure) -> Option<Rows<Host>>
 
 /// The topology that starts with the hosts.
 fn opened(alloc: Global, hosts: &[Host]) -> Option<Topology> {
-    if !Topology::may_start(alloc, hosts, false).ok()? {
+    let Ok(may) = Topology::may_start(alloc, hosts, false) else {
+        return None;
+    };
+    if !may {
         return None;
     }
     Topology::start(alloc, hosts, Some("rs"), false).ok()

@@ -1,5 +1,5 @@
 -- An event leaves at most one primary, and a kind that tells of it.
-use Rattle.std.proofs.Common.{◌≡◌, ℕ, zero, suc, ◌≤◌, Bool, true, false, cond, not, ◌&&◌, ◌||◌, if◌then◌else◌, eqb, eqb→eq, List, [], ◌∷◌, ◌++◌, map, fold, length, Option, None, Some, is_some, refl, sym, ap, subst, ◌∙◌, arith, slice_get, true≢false}
+use Rattle.std.proofs.Common.{◌≡◌, ℕ, zero, suc, ◌≤◌, Bool, true, false, cond, not, ◌&&◌, ◌||◌, if◌then◌else◌, eqb, eqb-true, List, [], ◌∷◌, ◌++◌, map, fold, length, Option, None, Some, is_some, refl, sym, ap, subst, ◌∙◌, arith, slice_get, true≢false}
 use Rattle.std.specs.FinMap as map
 use Rattle.std.specs.List.{list_any}
 use Rattle.std.specs.Option.{unwrap_or, option_or}
@@ -125,7 +125,7 @@ module _ (m : ServerMap) (h : Address) where
           by true a = absurd (true≢false (sym a))
           by false a = a
 
-at_tabulate : (f : Address → ServerDescription) (xs : List Address) (x : Address) (e : ServerDescription) → map.get (tabulate xs f) x ≡ Some e → f x ≡ e
+pub at_tabulate : (f : Address → ServerDescription) (xs : List Address) (x : Address) (e : ServerDescription) → map.get (tabulate xs f) x ≡ Some e → f x ≡ e
 at_tabulate f xs x e at = by (among x xs) (sym (get-tabulate f x xs) ∙ at)
   where
     by : (b : Bool) → cond b (Some (f x)) None ≡ Some e → f x ≡ e
@@ -174,7 +174,7 @@ pub record Sound (t : Topology) : Type 0 where
   pub some : t.kind ≡ topo.WithPrimary → has_primary t.servers ≡ true
   pub one : is_of_one t.kind t.seeds ≡ true → OneHost t.servers
 
-is_with : TopoKind → Bool
+abbrev is_with : TopoKind → Bool
 is_with topo.WithPrimary = true
 is_with _ = false
 
@@ -182,7 +182,7 @@ without_with : (k : TopoKind) → is_without k ≡ true → k ≡ topo.WithPrima
 without_with k a e = true≢false (sym a ∙ ap is_without e)
 
 single_with : (k : TopoKind) → k ≡ topo.Single → k ≡ topo.WithPrimary → ⊥
-single_with k a e = true≢false (sym (ap is_with (sym e)) ∙ ap is_with a)
+single_with k a e = true≢false (sym (ap is_with e) ∙ ap is_with a)
 
 -- of a kind without a primary
 sound-none : (t : Topology) → is_without t.kind ≡ true → NonePrimary t.servers → (is_of_one t.kind t.seeds ≡ true → OneHost t.servers) → Sound t
@@ -204,10 +204,7 @@ sound-checked t alone = by (has_primary t.servers) refl
     by false is = record { alone = alone; none = λ _. none_from t.servers is; some = λ e. absurd (without_with topo.NoPrimary refl e); one = λ h. absurd (true≢false (sym h)) }
 
 module _ (t : Topology) (d : ServerDescription) (sound : Sound t) where
-  h : Address
-  h = d.host
-
-  n : ServerMap
+  abbrev n : ServerMap
   n = map.insert t.servers d.host d
 
   gone : AtMostOnePrimary (map.remove n d.host)
@@ -334,7 +331,7 @@ module _ (t : Topology) (d : ServerDescription) (sound : Sound t) (stood : is_so
   in_kind topo.WithPrimary kind server.Arbiter is = member (ap is_primary_kind is)
   in_kind topo.WithPrimary kind server.Other is = member (ap is_primary_kind is)
 
-host-fresh : (m : ServerMap) (event : TopoEvent) → (fresh m event).host ≡ event_host event
+pub host-fresh : (m : ServerMap) (event : TopoEvent) → (fresh m event).host ≡ event_host event
 host-fresh m (Reply description sample) = refl
 host-fresh m (Broken host generation) = refl
 host-fresh m (Refused host version generation shutdown) = refl
@@ -374,7 +371,7 @@ opened-sound hosts name direct may = by direct may name
 
     by : (direct : Bool) → MayStart hosts direct → (name : Option (List ℕ)) → Sound (opened hosts name direct)
     by true may name = sound-single (opened hosts name true) refl (of_one hosts (may.one refl))
-    by false may None = sound-none (opened hosts None false) refl none (λ o. of_one hosts (eqb→eq o))
+    by false may None = sound-none (opened hosts None false) refl none (λ o. of_one hosts (eqb-true (length hosts) 1 o))
     by false may (Some n) = sound-none (opened hosts (Some n) false) refl none (λ o. absurd (true≢false (sym o)))
 
 pub one_primary : (hosts : List Address) (name : Option (List ℕ)) (direct : Bool) (events : List TopoEvent) → MayStart hosts direct → AtMostOnePrimary (behind_events (opened hosts name direct) events).servers

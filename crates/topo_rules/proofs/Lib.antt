@@ -4,6 +4,7 @@ pub mod HostTables
 pub mod LawLemmas
 pub mod Lists
 pub mod MoveLemmas
+pub mod OriginLemmas
 pub mod OutcomeLemmas
 pub mod Places
 pub mod ReadingLemmas

@@ -1,9 +1,10 @@
 -- What holds behind every list of events.
-use Rattle.std.specs.Prelude.{◌≡◌, ◌≤◌, Bool, true, false, if◌then◌else◌, List, fold, length, Some}
+use Rattle.std.specs.Prelude.{◌≡◌, ◌≤◌, ◌⊎◌, Bool, true, false, if◌then◌else◌, List, fold, length, Some}
 use Rattle.std.specs.FinMap as map
 use Rattle.std.specs.List.{IsDistinct}
 use Rattle.host_name.specs.Addresses.{Address, is_same_address}
 use Rattle.hello_reply.specs.declared.server_description.ServerDescription.{ServerDescription}
+use Rattle.hello_reply.specs.Descriptions.{unknown as default_unknown_of}
 use Rattle.topo_rules.specs.declared.event.TopoEvent.{TopoEvent}
 use Rattle.topo_rules.specs.declared.kind.TopoKind.{TopoKind}
 use Rattle.topo_rules.specs.declared.kind.TopoKind.TheVariants as topo
@@ -11,7 +12,7 @@ use Rattle.topo_rules.specs.declared.topology.Topology.{Topology}
 use Rattle.topo_rules.specs.Changes.{stands}
 use Rattle.topo_rules.specs.Kinds.{is_primary}
 use Rattle.topo_rules.specs.Maps.{ServerMap, has_primary}
-use Rattle.topo_rules.specs.Rules.{event_host, after}
+use Rattle.topo_rules.specs.Rules.{event_host, fresh, after}
 
 -- The hosts and the word that a topology may start with: 1 to 16,777,216 hosts that differ, and one where the connection is
 -- direct (SDAM, Initial Servers and Initial TopologyType; own: the greatest number).
@@ -46,3 +47,8 @@ is_set_kind topo.Unknown = true
 is_set_kind topo.NoPrimary = true
 is_set_kind topo.WithPrimary = true
 is_set_kind _ = false
+
+-- Where the description of a host behind an event comes from: it is a default Unknown, what the event says of its own host,
+-- or, of another host, what stood there.
+abbrev pub StandsBehind : Topology → TopoEvent → Address → ServerDescription → Type 0
+StandsBehind t event x d = (d ≡ default_unknown_of x) ⊎ (((x ≡ event_host event) × (d ≡ fresh t.servers event)) ⊎ ((x ≡ event_host event → ⊥) × (map.get t.servers x ≡ Some d)))

@@ -1,9 +1,10 @@
-ghost use Rattle.std.specs.Prelude.{◌≡◌, IfOk, None, Some};
+ghost use Rattle.std.specs.Prelude.{◌≡◌, IfOk, None, Some, if◌then◌else◌};
 ghost use Rattle.std.specs.Arc.{arc_value};
+ghost use Rattle.std.specs.FinMap as map;
 ghost use Rattle.std.specs.Option.{option_or};
 ghost use Rattle.topo_rules.specs.Outcomes.{IsOutcome, edited, kind_by, made, name_by};
 ghost use Rattle.topo_rules.specs.Maps.{joined};
-ghost use Rattle.topo_rules.specs.Rules.{check_if_has_primary, set_unknown, taken_name, placed, without, update_single as update_single_lem, update_unknown_with_standalone as update_unknown_with_standalone_lem, update_rs_without_primary as update_rs_without_primary_lem, update_rs_with_primary_from_member as update_rs_with_primary_from_member_lem, with_verdict as with_verdict_lem, update_rs_from_primary as update_rs_from_primary_lem, settled};
+ghost use Rattle.topo_rules.specs.Rules.{check_if_has_primary, me_differs as me_differs_lem, set_unknown, taken_name, placed, without, update_single as update_single_lem, update_unknown_with_standalone as update_unknown_with_standalone_lem, update_rs_without_primary as update_rs_without_primary_lem, update_rs_with_primary_from_member as update_rs_with_primary_from_member_lem, with_verdict as with_verdict_lem, update_rs_from_primary as update_rs_from_primary_lem, settled};
 
 use crate::cell::Cell;
 use crate::kinds::is_known;
@@ -115,13 +116,18 @@ impl Topology {
         copy_text(alloc, came)
     }
 
-    /// The servers with the description and with each host that it lists.
-    fn joined(&self, alloc: Global, description: &Shared) -> Result<Servers, Memory>
-        ensures { IfOk result (λ servers. servers ≡ joined (placed self.now (arc_value description.now)).servers (arc_value description.now).listed) }
+    /// The servers with the description and with each host that it lists, less its own host where `me` is another one.
+    fn members(&self, alloc: Global, description: &Shared) -> Result<Servers, Memory>
+        ensures { IfOk result (λ servers. servers ≡ (let all = joined (placed self.now (arc_value description.now)).servers (arc_value description.now).listed in if me_differs_lem (arc_value description.now) then map.remove all (arc_value description.now).host else all)) }
     {
+        let placed = Arc::try_clone(description)?;
         let mut servers = self.servers.copy()?;
-        servers.put(alloc, Arc::try_clone(description)?)?;
-        servers.joined(alloc, description.listed.as_slice())
+        servers.put(alloc, placed)?;
+        let all = servers.joined(alloc, description.listed.as_slice())?;
+        if me_differs(description) {
+            return all.without(alloc, &description.host);
+        }
+        Ok(all)
     }
 
     /// TopologyType Single.
@@ -161,10 +167,7 @@ impl Topology {
             return self.remove(alloc, description, KindRule::Is(kind));
         }
         let name = self.name_to_take(alloc, &description.set_name)?;
-        let mut servers = self.joined(alloc, description)?;
-        if me_differs(description) {
-            servers = servers.without(alloc, &description.host)?;
-        }
+        let servers = self.members(alloc, description)?;
         Ok(self.with_edit(Edit::Whole(servers), KindRule::Is(kind), name))
     }
 

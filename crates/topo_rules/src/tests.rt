@@ -1,4 +1,5 @@
 mod changes;
+mod events;
 mod lines;
 mod readings;
 mod scenarios;

@@ -98,14 +98,16 @@ impl Topology {
         }
     }
 
-    /// The greatest election that the topology took over from a primary (SDAM, TopologyDescription: maxElectionId).
+    /// The election that a later primary is compared with; none until a primary brought one (SDAM, TopologyDescription:
+    /// maxElectionId).
     pub fn max_election(&self) -> Option<Oid>
         ensures value { result ≡ self.now.max_election }
     {
         self.max_election
     }
 
-    /// The set version that the topology took over from a primary (SDAM, TopologyDescription: maxSetVersion).
+    /// The set version that a later primary is compared with; none until a primary brought one (SDAM, TopologyDescription:
+    /// maxSetVersion).
     pub fn max_set_version(&self) -> Option<i64>
         ensures value { result ≡ self.now.max_set_version }
     {

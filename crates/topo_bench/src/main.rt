@@ -63,7 +63,10 @@ fn main(rt: HostRuntime) -> ExitCode {
         Err(trouble) => trouble,
     };
     let (line, status) = match trouble {
-        Trouble::Words => ("usage: topo_bench plain|equal primary|broken HOSTS ROUNDS", 2),
+        Trouble::Words => (
+            "usage: topo_bench plain|equal primary|broken HOSTS ROUNDS",
+            2,
+        ),
         Trouble::Memory => ("topo_bench: memory", 1),
         Trouble::Clock => ("topo_bench: no clock", 1),
     };

@@ -113,7 +113,7 @@ module _ (m : ServerMap) (h : Address) where
   none-remove none x e at = none x e (at_remove x e at)
 
   alone-remove : AtMostOnePrimary m → AtMostOnePrimary (map.remove m h)
-  alone-remove alone = record { only = λ x y e f at as. alone.only x y e f (at_remove x e at) (at_remove y f ats) }
+  alone-remove alone = record { only = λ x y e f at ats. alone.only x y e f (at_remove x e at) (at_remove y f ats) }
 
   one-remove : OneHost m → OneHost (map.remove m h)
   one-remove one x y a b = one x y (was x a) (was y b)
@@ -214,7 +214,7 @@ module _ (t : Topology) (d : ServerDescription) (sound : Sound t) where
   stale = subst AtMostOnePrimary (sym (insert-insert t.servers d.host d (default_unknown_of d.host))) (alone-insert t.servers d.host (default_unknown_of d.host) refl sound.alone)
 
   from_primary : (k : TopoKind) → Sound (update_rs_from_primary (record (placed t d) { kind = k }) d)
-  from_primary k = sound-checked _ (by (name_differs t.set_name d.set_name) (judged d (record { election = t.max_election; version = t.max_set_version })))
+  from_primary k = sound-checked (if name_differs t.set_name d.set_name then without (record (placed t d) { kind = k }) d.host else with_verdict (taken_name (record (placed t d) { kind = k }) d.set_name) d (judged d (record { election = t.max_election; version = t.max_set_version }))) (by (name_differs t.set_name d.set_name) (judged d (record { election = t.max_election; version = t.max_set_version })))
     where
       by : (b : Bool) (o : Option Maxima) → AtMostOnePrimary (if b then without (record (placed t d) { kind = k }) d.host else with_verdict (taken_name (record (placed t d) { kind = k }) d.set_name) d o).servers
       by true o = gone
@@ -359,7 +359,7 @@ opened-sound hosts name direct may = by direct may name
 
     of_one : (xs : List Address) → length xs ≡ 1 → OneHost (tabulate xs default_unknown_of)
     of_one [] e = absurd (omega (arith, e))
-    of_one (z ∷ []) e x y a b = is x a ∙ sym (is y b)
+    of_one (z ∷ []) e = λ x y a b. is x a ∙ sym (is y b)
       where
         is : (x : Address) → is_some (map.get (tabulate (z ∷ []) default_unknown_of) x) ≡ true → x ≡ z
         is x a = by (eq_by_cmp address_cmp x z) refl (sym (ap is_some (get-tabulate default_unknown_of x (z ∷ []))) ∙ a)
@@ -372,7 +372,7 @@ opened-sound hosts name direct may = by direct may name
     by : (direct : Bool) → MayStart hosts direct → (name : Option (List ℕ)) → Sound (opened hosts name direct)
     by true may name = sound-single (opened hosts name true) refl (of_one hosts (may.one refl))
     by false may None = sound-none (opened hosts None false) refl none (λ o. of_one hosts (eqb-true (length hosts) 1 o))
-    by false may (Some n) = sound-none (opened hosts (Some n) false) refl none (λ o. absurd (true≢false (sym o)))
+    by false may (Some given) = sound-none (opened hosts (Some given) false) refl none (λ o. absurd (true≢false (sym o)))
 
 pub one_primary : (hosts : List Address) (name : Option (List ℕ)) (direct : Bool) (events : List TopoEvent) → MayStart hosts direct → AtMostOnePrimary (behind_events (opened hosts name direct) events).servers
 one_primary hosts name direct events may = (events-sound (opened hosts name direct) events (opened-sound hosts name direct may)).alone

@@ -11,6 +11,8 @@ use Rattle.std.specs.Option.{unwrap_or, option_or}
 use Rattle.topo_rules.specs.declared.kind.TopoKind.{TopoKind}
 use Rattle.topo_rules.specs.declared.maxima.Maxima.{Maxima}
 use Rattle.topo_rules.specs.declared.topology.Topology.{Topology}
+use Rattle.topo_rules.specs.declared.outcome.KindRule.TheVariants.{ByPrimary}
+use Rattle.topo_rules.specs.Outcomes.{kind_by}
 use Rattle.topo_rules.specs.Kinds.{is_primary}
 use Rattle.topo_rules.specs.Primaries.{judged}
 use Rattle.topo_rules.specs.Rules.{name_differs, me_differs, placed, without, taken_name, check_if_has_primary, with_verdict, update_rs_from_primary, update_rs_without_primary}
@@ -64,5 +66,14 @@ pub without_primary-makes : (t : Topology) (d : ServerDescription) (k : TopoKind
 without_primary-makes t d k name servers named are same =
     (λ i. record t { kind = k; set_name = named i; servers = are i })
     ∙ ap (λ b. if b then without (record (placed t d) { kind = k }) d.host
-        else (let all = joined (placed t d).servers d.listed in
-        record (record (placed t d) { kind = k }) { set_name = option_or t.set_name d.set_name; servers = if me_differs d then map.remove all d.host else all })) (sym same)
+    else (let all = joined (placed t d).servers d.listed in
+    record (record (placed t d) { kind = k }) { set_name = option_or t.set_name d.set_name; servers = if me_differs d then map.remove all d.host else all })) (sym same)
+
+-- the reply of a primary that is not stale: the maxima, the name and the servers
+pub primary-makes : (t : Topology) (d : ServerDescription) (most : Maxima) (name : Option (List ℕ)) (servers : ServerMap)
+    → name ≡ option_or t.set_name d.set_name → servers ≡ servers_of_primary t.servers d
+    → record t { kind = kind_by ByPrimary servers; set_name = name; max_election = most.election; max_set_version = most.version; servers = servers }
+    ≡ check_if_has_primary (with_verdict (taken_name (placed t d) d.set_name) d (Some most))
+primary-makes t d most name servers named are =
+    (λ i. record t { kind = kind_by ByPrimary (are i); set_name = named i; max_election = most.election; max_set_version = most.version; servers = are i })
+    ∙ ap (λ m. record t { kind = kind_by ByPrimary m; set_name = option_or t.set_name d.set_name; max_election = most.election; max_set_version = most.version; servers = m }) (sym (primary-insert t.servers d))

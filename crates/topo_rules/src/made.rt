@@ -40,12 +40,7 @@ impl Servers {
     }
 
     /// What stands at a host that the primary lists.
-    fn beside_primary(
-        &self,
-        alloc: Global,
-        primary: &Shared,
-        host: &Host,
-    ) -> Result<Shared, Memory>
+    fn beside_primary(&self, alloc: Global, primary: &Shared, host: &Host) -> Result<Shared, Memory>
         ensures { IfOk result (λ shared. arc_value shared ≡ beside_primary self.now (arc_value primary.now) host.now) }
     {
         if *host == primary.host {

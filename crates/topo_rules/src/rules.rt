@@ -80,12 +80,7 @@ impl Topology {
     }
 
     /// The server is removed.
-    fn remove(
-        &self,
-        alloc: Global,
-        description: &Shared,
-        kind: KindRule,
-    ) -> Result<Outcome, Memory>
+    fn remove(&self, alloc: Global, description: &Shared, kind: KindRule) -> Result<Outcome, Memory>
         ensures { IfOk result (IsOutcome self.now (arc_value description.now).host (record (without (placed self.now (arc_value description.now)) (arc_value description.now).host) { kind = kind_by kind (without (placed self.now (arc_value description.now)) (arc_value description.now).host).servers })) }
     {
         let servers = self.servers.without(alloc, &description.host)?;
@@ -186,11 +181,7 @@ impl Topology {
     }
 
     /// updateRSFromPrimary.
-    fn update_rs_from_primary(
-        &self,
-        alloc: Global,
-        description: &Shared,
-    ) -> Result<Outcome, Memory>
+    fn update_rs_from_primary(&self, alloc: Global, description: &Shared) -> Result<Outcome, Memory>
         ensures { IfOk result (IsOutcome self.now (arc_value description.now).host (update_rs_from_primary_lem (placed self.now (arc_value description.now)) (arc_value description.now))) }
     {
         if name_differs(&self.set_name, &description.set_name) {

@@ -32,11 +32,7 @@ fn stands(topology: &Topology, host: &Host) -> bool
 }
 
 /// What becomes of the pools behind the event: the host whose pool is ready, and the one whose pool is cleared.
-pub fn pools_behind(
-    event: &TopoEvent,
-    host: Host,
-    new: &Topology,
-) -> (Option<Host>, Option<Host>)
+pub fn pools_behind(event: &TopoEvent, host: Host, new: &Topology) -> (Option<Host>, Option<Host>)
     requires { host ≡ event_host event.now }
     ensures ready { result.0 ≡ ready_after event.now new.now }
     ensures clear { result.1 ≡ cleared_after event.now new.now }

@@ -10,7 +10,8 @@ ghost use Rattle.topo_rules.specs.Seen.{by_host, described, seen};
 use crate::outcome::KindRule;
 use crate::readings::{first_misfit, least_minutes, some_is_primary};
 use crate::table::{
-    Shared, Table, append, append_other, find_in, place_of, put_in_order, set_at, share_table, shared_at, shared_table, unknown,
+    Shared, Table, append, append_other, find_in, place_of, put_in_order, set_at, share_table,
+    shared_at, shared_table, unknown,
 };
 use crate::{Memory, TopoKind};
 use hello_reply::ServerDescription;

@@ -1,6 +1,6 @@
 //! Replies that are described and taken in, and copies of events.
-use crate::TopoEvent;
 use super::lines::{shown, start, take};
+use crate::TopoEvent;
 use bson_doc::{Document, Name, Text, Value};
 use hello_reply::describe;
 use host_name::Host;

@@ -1,1 +1,2 @@
+pub mod MeanLemmas
 pub mod OfferLemmas

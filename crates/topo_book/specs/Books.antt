@@ -1,10 +1,25 @@
 -- The topology that events make of an opening, and what becomes of events that are offered one after another.
-use Rattle.std.specs.Prelude.{ℕ, if◌then◌else◌, List, [], ◌∷◌, fold}
+use Rattle.std.specs.Prelude.{◌≡◌, ◌≤◌, ℕ, if◌then◌else◌, List, [], ◌∷◌, fold}
 use Rattle.topo_rules.specs.declared.event.TopoEvent.{TopoEvent}
 use Rattle.topo_rules.specs.declared.topology.Topology.{Topology}
 use Rattle.topo_rules.specs.Rules.{after}
 use Rattle.topo_book.specs.declared.verdict.Verdict.{Verdict}
 use Rattle.topo_book.specs.Fresh.{taken, is_accepted_verdict}
+
+-- What contracts see of a book: the topology that it opened with, the events that it accepted, in order, the topology that
+-- they made, and how many further events have room (own).
+pub record Book : Type 0 where
+  pub opening : Topology
+  pub topology : Topology
+  pub accepted : List TopoEvent
+  pub room : ℕ
+
+-- The book is as it was; it may have more room.
+pub record IsKept (old new : Book) : Type 0 where
+  pub opening : new.opening ≡ old.opening
+  pub topology : new.topology ≡ old.topology
+  pub accepted : new.accepted ≡ old.accepted
+  pub room : old.room ≤ new.room
 
 -- What the events make of the opening, in order.
 abbrev pub folded : Topology → List TopoEvent → Topology

@@ -1,3 +1,4 @@
 pub mod Books
 pub mod Fresh
+pub mod Means
 pub mod Offers

@@ -1,19 +1,13 @@
--- What a book shows and what its answers say.
+-- What the answers of a book say.
 use Rattle.std.specs.Prelude.{Bool}
-use Rattle.std.specs.Option.{unwrap_or}
 use Rattle.topo_rules.specs.declared.change.Change.{Change}
-use Rattle.topo_rules.specs.declared.topology.Topology.{Topology}
-use Rattle.topo_book.specs.declared.book.TopoBook.{TopoBook}
 use Rattle.topo_book.specs.declared.taken.Taken.{Taken}
 use Rattle.topo_book.specs.declared.taken.Taken.TheVariants as answer
 use Rattle.topo_book.specs.declared.verdict.Verdict.{Verdict}
 use Rattle.topo_book.specs.declared.verdict.Verdict.TheVariants as verdict
 use Rattle.topo_book.specs.Fresh.{is_accepted_verdict}
 
--- The topology that a book shows: what became of its opening, which stands until the first event is accepted.
-abbrev pub topology_of : TopoBook → Topology
-topology_of book = unwrap_or book.current book.opening
-
+-- The verdict that an answer tells.
 abbrev pub verdict_of : Taken → Verdict
 verdict_of (answer.Accepted change) = verdict.Accepted
 verdict_of answer.Gone = verdict.Gone

@@ -1,4 +1,9 @@
-ghost use Rattle.std.specs.Prelude.{◌≡◌, ℕ, [], ◌∷◌, ◌++◌, List, if◌then◌else◌};
+ghost use Rattle.std.specs.Prelude.{◌≡◌, ℕ, Bool, Option, [], ◌∷◌, ◌++◌, List, if◌then◌else◌};
+ghost use Rattle.host_name.specs.Addresses.{Address};
+ghost use Rattle.rtt_mean.specs.Mean.{mean};
+ghost use Rattle.topo_rules.specs.Maps.{kept_mean};
+ghost use Rattle.topo_rules.specs.Rules.{opened};
+ghost use Rattle.topo_book.specs.Means.{samples_since};
 ghost use Rattle.topo_rules.specs.declared.event.TopoEvent.{TopoEvent};
 ghost use Rattle.topo_rules.specs.declared.topology.Topology.{Topology};
 ghost use Rattle.topo_book.specs.Books.{folded, answers, accepted};
@@ -14,4 +19,10 @@ pub fn offers_make_lists()
     ensures no_event { (opening : Topology) → accepted opening [] ≡ [] }
     ensures one_more_answer { (opening : Topology) (offers : List (TopoEvent × ℕ)) (event : TopoEvent) (pool : ℕ) → answers opening (offers ++ (event, pool) ∷ []) ≡ answers opening offers ++ taken (folded opening (accepted opening offers)).servers event pool ∷ [] }
     ensures one_more_event { (opening : Topology) (offers : List (TopoEvent × ℕ)) (event : TopoEvent) (pool : ℕ) → accepted opening (offers ++ (event, pool) ∷ []) ≡ (if is_accepted_verdict (taken (folded opening (accepted opening offers)).servers event pool) then accepted opening offers ++ event ∷ [] else accepted opening offers) }
+{}
+
+/// The law of means: the mean round trip time that is kept of a host is the mean of its samples, in order, since it last
+/// stood as Unknown or not at all.
+pub fn mean_is_of_samples()
+    ensures { (hosts : List Address) (name : Option (List ℕ)) (direct : Bool) (events : List TopoEvent) (x : Address) → kept_mean (folded (opened hosts name direct) events).servers x ≡ mean (samples_since (opened hosts name direct) events x) }
 {}

@@ -5,7 +5,8 @@
 //! of its host's pool, and answers whether the event is accepted, a [`Taken`]: an event of a host that is gone, of a
 //! topology version that is behind the one that is kept, or of a connection that the pool has cleared is not, and
 //! changes nothing. [`TopoBook::topology`] is what the accepted events made of the opening one, in order, and
-//! [`TopoBook::accepted`] lists them. [`offers_make_lists`] is the law over any list of offers.
+//! [`TopoBook::accepted`] lists them. [`offers_make_lists`] is the law over any list of
+//! offers, and [`mean_is_of_samples`] that of the mean round trip times.
 //!
 //! Calls that allocate take an allocator first, and answer [`Memory`] where they get none: the book is then as it was.
 #![tactic(auto)]
@@ -18,7 +19,7 @@ mod tests;
 mod verdict;
 
 pub use book::TopoBook;
-pub use laws::offers_make_lists;
+pub use laws::{mean_is_of_samples, offers_make_lists};
 pub use taken::Taken;
 
 /// Want of memory, the error of calls that can fail in no other way.

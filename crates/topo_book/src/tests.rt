@@ -11,7 +11,11 @@ fn opened(alloc: Global) -> Result<(TopoBook, TopoEvent), Fail> {
     let host = Host::parse(alloc, "a")?;
     let mut description = default_unknown(alloc, &host)?;
     description.kind = ServerKind::Mongos;
-    let topology = Topology::start(alloc, &[host], None, false)?;
+    let hosts = [host];
+    if !Topology::may_start(alloc, &hosts, false)? {
+        return Err(Fail::from("no hosts to start with"));
+    }
+    let topology = Topology::start(alloc, &hosts, None, false)?;
     let reply = TopoEvent::Reply {
         description,
         sample: 1,

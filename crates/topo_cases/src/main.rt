@@ -23,6 +23,8 @@ use std::io;
 use std::process::ExitCode;
 
 fn main(rt: HostRuntime) -> io::Result<ExitCode> {
-    let mut state = State::opened(rt.alloc())?;
+    let Ok(mut state) = State::opened(rt.alloc()) else {
+        return Err(io::ErrorKind::OutOfMemory.into());
+    };
     run_files(&rt, &mut state)
 }

@@ -1,6 +1,7 @@
 use crate::facts::fact_of;
 use crate::steps::step_of;
-use case_files::{CaseFault, Memory, Subject, Words};
+use crate::topologies::placeholder;
+use case_files::{CaseFault, Subject, Words};
 use hello_reply::{ReplyFault, ServerDescription};
 use std::alloc::Global;
 use std::cmp::Ordering;
@@ -38,10 +39,10 @@ pub enum Told {
 }
 
 impl State {
-    /// A topology and a book without servers.
-    pub fn opened(alloc: Global) -> Result<State, Memory> {
-        let topology = Topology::start(alloc, &[], None, false)?;
-        let opening = Topology::start(alloc, &[], None, false)?;
+    /// A topology and a book before any is started.
+    pub fn opened(alloc: Global) -> Result<State, CaseFault> {
+        let topology = placeholder(alloc)?;
+        let opening = placeholder(alloc)?;
         Ok(State {
             topology,
             book: TopoBook::new(alloc, opening),

@@ -5,9 +5,6 @@ use hello_reply::ServerDescription;
 use std::alloc::Global;
 use topo_rules::{Change, TopoEvent, Topology};
 
-/// The most hosts that a topology starts with here.
-const MOST_HOSTS: usize = 1_000;
-
 /// The topology that the words `HOST.. [set=NAME] [direct]` start.
 pub fn started(alloc: Global, words: &mut Words<'_>) -> Result<Topology, CaseFault> {
     let direct = words.flag("direct");
@@ -19,10 +16,19 @@ pub fn started(alloc: Global, words: &mut Words<'_>) -> Result<Topology, CaseFau
         }
         hosts.push(host(alloc, name)?)?;
     }
-    if hosts.len() > MOST_HOSTS {
-        return Err(CaseFault::Refused("too many hosts"));
+    if !Topology::may_start(alloc, hosts.as_slice(), direct)? {
+        return Err(CaseFault::Refused("no hosts to start with"));
     }
     Ok(Topology::start(alloc, hosts.as_slice(), set_name, direct)?)
+}
+
+/// The topology that stands before any is started: of one host.
+pub fn placeholder(alloc: Global) -> Result<Topology, CaseFault> {
+    let hosts = [host(alloc, "none")?];
+    if !Topology::may_start(alloc, &hosts, false)? {
+        return Err(CaseFault::Refused("no hosts to start with"));
+    }
+    Ok(Topology::start(alloc, &hosts, None, false)?)
 }
 
 /// What the event changes, whose host must be in the topology.

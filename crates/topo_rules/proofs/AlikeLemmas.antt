@@ -1,5 +1,5 @@
 -- What an event leaves as it was: beside its host, a server that keeps its kind is as it was before.
-use Rattle.std.proofs.Common.{◌≡◌, ℕ, Bool, true, false, cond, ◌||◌, if◌then◌else◌, List, Option, None, Some, is_some, refl, sym, ap, subst, ◌∙◌, slice_get, option_map, true≢false}
+use Rattle.std.proofs.Common.{◌≡◌, ℕ, Bool, true, false, cond, ◌||◌, ◌&&◌, if◌then◌else◌, List, Option, None, Some, is_some, refl, sym, ap, subst, ◌∙◌, slice_get, option_map, true≢false}
 use Rattle.std.proofs.lemmas.Option.{slice_get-map}
 use Rattle.std.specs.FinMap as map
 use Rattle.std.specs.Option.{unwrap_or}
@@ -16,15 +16,13 @@ use Rattle.topo_rules.specs.declared.maxima.Maxima.{Maxima}
 use Rattle.topo_rules.specs.declared.topology.Topology.{Topology}
 use Rattle.topo_rules.specs.Cells.{cell_of}
 use Rattle.topo_rules.specs.Changes.{AlikeBeside, meanless, plain}
-use Rattle.topo_rules.specs.Kinds.{is_primary, is_primary_kind}
-use Rattle.topo_rules.specs.Maps.{ServerMap, tabulate, known_or_new, joined, under, reign}
+use Rattle.topo_rules.specs.Kinds.{is_known, is_primary, is_primary_kind}
+use Rattle.topo_rules.specs.Maps.{ServerMap, tabulate, known_or_new, joined, beside_primary, servers_of_primary}
 use Rattle.topo_rules.specs.Primaries.{judged}
-use Rattle.topo_rules.specs.Rules.{event_host, fresh, name_differs, me_differs, placed, taken_name, updated_without_primary, crowned, updated_from_primary, settled, after}
+use Rattle.topo_rules.specs.Rules.{event_host, fresh, name_differs, me_differs, placed, taken_name, update_rs_without_primary, with_verdict, update_rs_from_primary, settled, after}
 use Rattle.topo_rules.proofs.HostOrder.{host_total}
-use Rattle.topo_rules.proofs.Tabulate.{among, get-tabulate, get_at, same_from_test}
-
-some_same : {A : Type 0} (x y : A) → Some x ≡ Some y → x ≡ y
-some_same x y e = ap (λ o. unwrap_or o x) e
+use Rattle.topo_rules.proofs.HostTables.{some_same, same_from_test}
+use Rattle.topo_rules.proofs.Tabulate.{among, get-tabulate, get_at}
 
 other-test : (x host : Address) → (x ≡ host → ⊥) → eq_by_cmp address_cmp x host ≡ false
 other-test x host apart = by (eq_by_cmp address_cmp x host) refl
@@ -76,8 +74,8 @@ module _ (host : Address) (m : ServerMap) where
   alike-joined : (n : ServerMap) (hosts : List Address) → SameBeside host m n → Alike host m (joined n hosts)
   alike-joined n hosts same = alike-tabulate (known_or_new n) _ (λ x d apart was kinds. known n same x d apart was)
 
-  alike-reign : (n : ServerMap) (p : ServerDescription) → p.host ≡ host → SameBeside host m n → Alike host m (reign n p)
-  alike-reign n p is_host same = alike-tabulate (under n p) p.listed (λ x d apart was. elsewhere x d apart (known n same x d apart was) (is_same_address x p.host) refl)
+  alike-of_primary : (n : ServerMap) (p : ServerDescription) → p.host ≡ host → SameBeside host m n → Alike host m (servers_of_primary n p)
+  alike-of_primary n p is_host same = alike-tabulate (beside_primary n p) p.listed (λ x d apart was. elsewhere x d apart (known n same x d apart was) (is_same_address x p.host) refl)
     where
       still : (x : Address) (d old : ServerDescription) → d ≡ old → (b : Bool) → is_primary old ≡ b
           → d.kind ≡ (if b then default_unknown_of x else old).kind → d ≡ (if b then default_unknown_of x else old)
@@ -100,17 +98,17 @@ module _ (host : Address) (m : ServerMap) where
 
 -- the rules, over a topology that has the description already
 module _ (m : ServerMap) (d : ServerDescription) where
-  alike-crowned : (s : Topology) (most : Option Maxima) → SameBeside d.host m s.servers → Alike d.host m (crowned s d most).servers
-  alike-crowned s None same = alike-insert d.host m s.servers (default_unknown_of d.host) (alike-same d.host m s.servers same)
-  alike-crowned s (Some most) same = alike-reign d.host m s.servers d refl same
+  alike-with_verdict : (s : Topology) (most : Option Maxima) → SameBeside d.host m s.servers → Alike d.host m (with_verdict s d most).servers
+  alike-with_verdict s None same = alike-insert d.host m s.servers (default_unknown_of d.host) (alike-same d.host m s.servers same)
+  alike-with_verdict s (Some most) same = alike-of_primary d.host m s.servers d refl same
 
-  alike-from_primary : (s : Topology) → SameBeside d.host m s.servers → Alike d.host m (updated_from_primary s d).servers
+  alike-from_primary : (s : Topology) → SameBeside d.host m s.servers → Alike d.host m (update_rs_from_primary s d).servers
   alike-from_primary s same =
       which d.host m (name_differs s.set_name d.set_name) _ _
       (alike-remove d.host m s.servers d.host (alike-same d.host m s.servers same))
-      (alike-crowned (taken_name s d.set_name) (judged d (record { election = s.max_election; version = s.max_set_version })) same)
+      (alike-with_verdict (taken_name s d.set_name) (judged d (record { election = s.max_election; version = s.max_set_version })) same)
 
-  alike-without_primary : (s : Topology) → SameBeside d.host m s.servers → Alike d.host m (updated_without_primary s d).servers
+  alike-without_primary : (s : Topology) → SameBeside d.host m s.servers → Alike d.host m (update_rs_without_primary s d).servers
   alike-without_primary s same =
       let all = joined s.servers d.listed in
       let joined_alike = alike-joined d.host m s.servers d.listed same in
@@ -134,7 +132,7 @@ alike-settled t d cell = by cell
     gone = alike-remove d.host t.servers n d.host kept
 
     by : (cell : Cell) → Alike d.host t.servers (settled cell (placed t d) d).servers
-    by UpdateSingle = which d.host t.servers (name_differs t.set_name d.set_name) _ _ (alike-insert d.host t.servers n (default_unknown_of d.host) kept) kept
+    by UpdateSingle = which d.host t.servers (is_known d && name_differs t.set_name d.set_name) _ _ (alike-insert d.host t.servers n (default_unknown_of d.host) kept) kept
     by Keep = kept
     by Remove = gone
     by UpdateUnknownWithStandalone = which d.host t.servers _ _ _ kept gone

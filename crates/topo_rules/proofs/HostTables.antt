@@ -1,82 +1,87 @@
--- The map that a table of hosts stands for, and when its entries stand in order.
-use Rattle.std.proofs.Common.{◌≡◌, ℕ, Bool, cond, List, [], ◌∷◌, map, Option, None, Some, refl, sym, ap, subst, ◌∙◌, T, slice_get, option_map, length}
+-- The map that a table of descriptions stands for, and what is read off a table that stands in order.
+use Rattle.std.proofs.Common.{◌≡◌, ℕ, zero, suc, ◌+◌, ◌<◌, Bool, true, false, cond, not, List, [], ◌∷◌, ◌++◌, map, Option, None, Some, is_some, refl, sym, ap, subst, ◌∙◌, arith, T, slice_get, option_map, length, get_or, set, true≢false}
+use Rattle.std.proofs.lemmas.Cmp.{eq_by_cmp_equiv}
 use Rattle.std.proofs.lemmas.List.{length-map}
 use Rattle.std.proofs.lemmas.Option.{slice_get-map}
 use Rattle.std.specs.Arc.{arc_value}
 use Rattle.std.specs.declared.sync.Arc.{Arc}
-use Rattle.std.specs.Map.{lookup, remove_entry, keys_of, values_of}
-use Rattle.std.specs.List.{IsDistinct}
-use Rattle.std.specs.List.Sorted.{IsSorted}
+use Rattle.std.specs.Cmp.{IsTotalOrder, on_total}
 use Rattle.std.specs.FinMap as map
+use Rattle.std.specs.FinMap.Entries.{find-where_key, where_key}
+use Rattle.std.specs.List.{AllByRecursion, filter}
+use Rattle.std.specs.List.Sorted.{IsStrictlySortedBy}
+use Rattle.std.specs.Map.{keys_of}
+use Rattle.std.specs.Option.{unwrap_or}
+use Rattle.std.specs.Ordering.{eq_by_cmp, is_eq}
+use Rattle.std.specs.declared.cmp.Ordering.{Ordering}
+use Rattle.std.specs.declared.cmp.Ordering.TheVariants.{Less, Equal, Greater}
 use Rattle.host_name.specs.Addresses.{Address, address_cmp, is_same_address}
 use Rattle.hello_reply.specs.declared.server_description.ServerDescription.{ServerDescription}
-use Rattle.topo_rules.specs.Seen.{seen, unshared}
+use Rattle.topo_rules.specs.Maps.{ServerMap, StandAtHosts, StandInOrder}
+use Rattle.topo_rules.specs.Seen.{by_host, described, seen}
 use Rattle.topo_rules.proofs.HostOrder.{host_total, host_same, host_ties}
-use Rattle.topo_rules.proofs.Places.{get-opened, same_lookups, put_is, remove_is, entries-from_entries, is_sorted-remove, is_sorted-from_keys, sorted_keys, keys_of-opened, remove_entry-opened}
+use Rattle.topo_rules.proofs.Places.{entries-from_entries, strict_keys, strictly}
 
-module _ {Z : Type 0} where
-  pub get-seen : (es : List (Address × Arc ServerDescription Z)) (q : Address) → map.get (seen es) q ≡ option_map arc_value (lookup (is_same_address q) es)
-  get-seen es q = get-opened address_cmp is_same_address host_total host_same host_ties es q
+pub some_same : {A : Type 0} (x y : A) → Some x ≡ Some y → x ≡ y
+some_same x y e = ap (λ o. unwrap_or o x) e
 
-  pub seen-put : (old new : List (Address × Arc ServerDescription Z)) (k : Address) (v : Arc ServerDescription Z)
-      → ((q : Address) → lookup (is_same_address q) new ≡ cond (is_same_address k q) (Some v) (lookup (is_same_address q) old))
-      → seen new ≡ map.insert (seen old) k (arc_value v)
-  seen-put old new k v updates = put_is address_cmp is_same_address host_total host_same host_ties old new k v updates
+pub equal_is : (r : Ordering) → is_eq r ≡ true → r ≡ Equal
+equal_is Less e = absurd (true≢false (sym e))
+equal_is Equal e = refl
+equal_is Greater e = absurd (true≢false (sym e))
 
-  pub seen-remove : (old new : List (Address × Arc ServerDescription Z)) (k : Address)
-      → ((q : Address) → lookup (is_same_address q) new ≡ cond (is_same_address k q) None (lookup (is_same_address q) old))
-      → seen new ≡ map.remove (seen old) k
-  seen-remove old new k updates = remove_is address_cmp is_same_address host_total host_same host_ties old new k updates
+pub same_from_test : (q x : Address) → eq_by_cmp address_cmp q x ≡ true → x ≡ q
+same_from_test q x e = sym (host_same q x (equal_is (address_cmp q x) e))
 
-  pub seen-same : (old new : List (Address × Arc ServerDescription Z))
-      → ((q : Address) → lookup (is_same_address q) new ≡ lookup (is_same_address q) old)
-      → seen new ≡ seen old
-  seen-same old new is = same_lookups address_cmp is_same_address host_total host_same host_ties old new is
+-- the list without the pointers
+module _ (ds : List ServerDescription) where
+  pub entries-by_host : T (map.is_sorted address_cmp (by_host ds)) → map.entries (map.from_entries {R = address_cmp} (by_host ds)) ≡ by_host ds
+  entries-by_host a = entries-from_entries address_cmp host_total host_same (by_host ds) a
 
-  pub entries-seen : (es : List (Address × Arc ServerDescription Z)) → T (map.is_sorted address_cmp (unshared es)) → map.entries (seen es) ≡ unshared es
-  entries-seen es a = entries-from_entries address_cmp is_same_address host_total host_same host_ties (unshared es) a
+values-by_host : (ds : List ServerDescription) → map (λ (e : Address × ServerDescription). e.1) (by_host ds) ≡ ds
+values-by_host [] = refl
+values-by_host (d ∷ ds) = ap (λ xs. d ∷ xs) (values-by_host ds)
 
-  -- keys in order without equal ones, as the table tells them, and as the map wants them
-  pub keys_in_order : (es : List (Address × Arc ServerDescription Z)) → T (map.is_sorted address_cmp (unshared es)) → IsSorted address_cmp (keys_of es)
-  keys_in_order es a = subst (IsSorted address_cmp) (keys_of-opened es) (sorted_keys address_cmp is_same_address host_total host_same host_ties (unshared es) a)
+found_at_host : (q : Address) (ds : List ServerDescription) (d : ServerDescription) → map.find address_cmp q (by_host ds) ≡ Some d → d.host ≡ q
+found_at_host q [] d e = absurd (true≢false (sym (ap is_some e)))
+found_at_host q (x ∷ ds) d e = by (eq_by_cmp address_cmp q x.host) refl (found_at_host q ds d) e
+  where
+    by : (b : Bool) → eq_by_cmp address_cmp q x.host ≡ b → (map.find address_cmp q (by_host ds) ≡ Some d → d.host ≡ q) → cond b (Some x) (map.find address_cmp q (by_host ds)) ≡ Some d → d.host ≡ q
+    by true t rest e = ap (λ (z : ServerDescription). z.host) (sym (some_same x d e)) ∙ same_from_test q x.host t
+    by false t rest e = rest e
 
-  pub in_order : (es : List (Address × Arc ServerDescription Z)) → IsSorted address_cmp (keys_of es) → IsDistinct is_same_address (keys_of es) → T (map.is_sorted address_cmp (unshared es))
-  in_order es sorted apart =
-      is_sorted-from_keys address_cmp is_same_address host_total host_same host_ties (unshared es)
-      (subst (IsSorted address_cmp) (sym (keys_of-opened es)) sorted) (subst (IsDistinct is_same_address) (sym (keys_of-opened es)) apart)
+module _ {Z : Type 0} (es : List (Arc ServerDescription Z)) where
+  -- what stands at a host is its description
+  pub seen-at_hosts : StandAtHosts (seen es)
+  seen-at_hosts = record { at = λ x d e. found_at_host x (described es) d (sym (map.get-from_entries host_total (by_host (described es)) x) ∙ e) }
 
-  pub in_order-remove : (t : Address → Bool) (es : List (Address × Arc ServerDescription Z)) → T (map.is_sorted address_cmp (unshared es)) → T (map.is_sorted address_cmp (unshared (remove_entry t es)))
-  in_order-remove t es a =
-      let P : List (Address × ServerDescription) → Type 0 = λ fs. T (map.is_sorted address_cmp fs) in
-      subst P (sym (remove_entry-opened t es)) (is_sorted-remove address_cmp is_same_address host_total host_same host_ties t (unshared es) a)
+  module _ (a : T (map.is_sorted address_cmp (by_host (described es)))) where
+    pub values-seen : map.values (seen es) ≡ described es
+    values-seen = ap (map (λ (e : Address × ServerDescription). e.1)) (entries-by_host (described es) a) ∙ values-by_host (described es)
 
-  pub len-seen : (es : List (Address × Arc ServerDescription Z)) → T (map.is_sorted address_cmp (unshared es)) → map.len (seen es) ≡ length es
-  len-seen es a = map.len-entries (seen es) ∙ ap length (entries-seen es a) ∙ length-map es (λ (e : Address × Arc ServerDescription Z). let x : Address × ServerDescription = (e.0, arc_value e.1) in x)
+    pub len-seen : map.len (seen es) ≡ length es
+    len-seen =
+        map.len-entries (seen es) ∙ ap length (entries-by_host (described es) a)
+        ∙ length-map (described es) (λ (d : ServerDescription). let x : Address × ServerDescription = (d.host, d) in x) ∙ length-map es (λ (s : Arc ServerDescription Z). arc_value s)
 
-  -- what a table has at a place, as what the map has there in the order of hosts
-  pub value_at : (es : List (Address × Arc ServerDescription Z)) → T (map.is_sorted address_cmp (unshared es)) → (i : ℕ)
-      → slice_get (map.values (seen es)) i ≡ option_map (λ (e : Address × Arc ServerDescription Z). arc_value e.1) (slice_get es i)
-  value_at es a i =
-      ap (λ fs. slice_get (map (λ (e : Address × ServerDescription). e.1) fs) i) (entries-seen es a)
-      ∙ slice_get-map (λ (e : Address × ServerDescription). e.1) (unshared es) i
-      ∙ ap (option_map (λ (e : Address × ServerDescription). e.1)) (slice_get-map (λ (e : Address × Arc ServerDescription Z). let x : Address × ServerDescription = (e.0, arc_value e.1) in x) es i)
-      ∙ twice (slice_get es i)
-    where
-      twice : (o : Option (Address × Arc ServerDescription Z)) → option_map (λ (e : Address × ServerDescription). e.1) (option_map (λ (e : Address × Arc ServerDescription Z). let x : Address × ServerDescription = (e.0, arc_value e.1) in x) o) ≡ option_map (λ (e : Address × Arc ServerDescription Z). arc_value e.1) o
-      twice None = refl
-      twice (Some e) = refl
+    pub entry-seen : (i : ℕ) → slice_get (map.entries (seen es)) i ≡ option_map (λ (s : Arc ServerDescription Z). let x : Address × ServerDescription = ((arc_value s).host, arc_value s) in x) (slice_get es i)
+    entry-seen i =
+        ap (λ fs. slice_get fs i) (entries-by_host (described es) a)
+        ∙ slice_get-map (λ (d : ServerDescription). let x : Address × ServerDescription = (d.host, d) in x) (described es) i
+        ∙ ap (option_map (λ (d : ServerDescription). let x : Address × ServerDescription = (d.host, d) in x)) (slice_get-map (λ (s : Arc ServerDescription Z). arc_value s) es i)
+        ∙ twice (slice_get es i)
+      where
+        twice : (o : Option (Arc ServerDescription Z)) → option_map (λ (d : ServerDescription). let x : Address × ServerDescription = (d.host, d) in x) (option_map (λ (s : Arc ServerDescription Z). arc_value s) o) ≡ option_map (λ (s : Arc ServerDescription Z). let x : Address × ServerDescription = ((arc_value s).host, arc_value s) in x) o
+        twice None = refl
+        twice (Some s) = refl
 
-  -- what a table has at a place, as the entry of the map there
-  pub entry_at : (es : List (Address × Arc ServerDescription Z)) → T (map.is_sorted address_cmp (unshared es)) → (i : ℕ)
-      → slice_get (map.entries (seen es)) i ≡ option_map (λ (e : Address × Arc ServerDescription Z). let x : Address × ServerDescription = (e.0, arc_value e.1) in x) (slice_get es i)
-  entry_at es a i =
-      ap (λ fs. slice_get fs i) (entries-seen es a)
-      ∙ slice_get-map (λ (e : Address × Arc ServerDescription Z). let x : Address × ServerDescription = (e.0, arc_value e.1) in x) es i
+    pub value-seen : (i : ℕ) → slice_get (map.values (seen es)) i ≡ option_map (λ (s : Arc ServerDescription Z). arc_value s) (slice_get es i)
+    value-seen i = ap (λ ds. slice_get ds i) values-seen ∙ slice_get-map (λ (s : Arc ServerDescription Z). arc_value s) es i
 
-  -- what is read off the map's values, read off the table's
-  values_unshared : (es : List (Address × Arc ServerDescription Z)) → map (λ (e : Address × ServerDescription). e.1) (unshared es) ≡ map (λ (s : Arc ServerDescription Z). arc_value s) (values_of es)
-  values_unshared [] = refl
-  values_unshared (e ∷ es) = ap (λ ds. arc_value e.1 ∷ ds) (values_unshared es)
-
-  pub values-seen : (es : List (Address × Arc ServerDescription Z)) → T (map.is_sorted address_cmp (unshared es)) → map.values (seen es) ≡ map (λ (s : Arc ServerDescription Z). arc_value s) (values_of es)
-  values-seen es a = ap (map (λ (e : Address × ServerDescription). e.1)) (entries-seen es a) ∙ values_unshared es
+-- every map stands in order
+pub in_order : (m : ServerMap) → StandInOrder m
+in_order m = record { rise = subst (IsStrictlySortedBy address_cmp) (keys_are (map.entries m)) (strict_keys address_cmp (map.entries m) (map.entries_sorted m)) }
+  where
+    keys_are : (es : List (Address × ServerDescription)) → keys_of es ≡ map (λ (e : Address × ServerDescription). e.0) es
+    keys_are [] = refl
+    keys_are (e ∷ es) = ap (λ ks. e.0 ∷ ks) (keys_are es)

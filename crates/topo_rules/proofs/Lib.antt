@@ -1,7 +1,13 @@
 pub mod AlikeLemmas
 pub mod HostOrder
 pub mod HostTables
+pub mod LawLemmas
 pub mod Lists
+pub mod MoveLemmas
+pub mod OriginLemmas
+pub mod OutcomeLemmas
 pub mod Places
 pub mod ReadingLemmas
+pub mod StartLemmas
+pub mod TableOrder
 pub mod Tabulate

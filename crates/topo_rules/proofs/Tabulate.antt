@@ -1,39 +1,28 @@
 -- Maps made by what is said of each host of a list.
-use Rattle.std.proofs.Common.{◌≡◌, ℕ, ◌+◌, ◌<◌, ◌≤◌, Bool, true, false, cond, ◌||◌, List, [], ◌∷◌, ◌++◌, map, Option, None, Some, is_some, refl, sym, ap, subst, ◌∙◌, arith, append_assoc, append-nil, length, slice_get, take, take_all, true≢false, get_or, option_map, T}
+use Rattle.std.proofs.Common.{◌≡◌, ℕ, zero, suc, ◌+◌, ◌<◌, Bool, true, false, cond, ◌||◌, if◌then◌else◌, List, [], ◌∷◌, ◌++◌, map, Option, None, Some, is_some, refl, sym, ap, subst, ◌∙◌, length, slice_get, take, true≢false, get_or, option_map, T}
 use Rattle.std.proofs.lemmas.Cmp.{eq_by_cmp_equiv}
-use Rattle.std.proofs.lemmas.List.{get_or-map, take_more}
-use Rattle.std.proofs.lemmas.Map.Entries.{lookup_from_place, length-keys_of}
-use Rattle.std.proofs.lemmas.Option.{get_or_from_slice_get, slice_get-map, slice_get_within}
-use Rattle.std.specs.Ordering.{eq_by_cmp, is_eq}
-use Rattle.std.specs.declared.cmp.Ordering.{Ordering}
-use Rattle.std.specs.declared.cmp.Ordering.TheVariants.{Less, Equal, Greater}
+use Rattle.std.proofs.lemmas.List.{take_more}
+use Rattle.std.proofs.lemmas.Map.Entries.{lookup_from_place}
+use Rattle.std.specs.Ordering.{eq_by_cmp}
 use Rattle.std.specs.List.{list_any}
-use Rattle.std.specs.Option.{unwrap_or, option_map_or}
+use Rattle.std.specs.Option.{unwrap_or}
 use Rattle.std.specs.FinMap as map
 use Rattle.std.specs.Arc.{arc_value}
 use Rattle.std.specs.declared.sync.Arc.{Arc}
 use Rattle.std.specs.Map.{lookup}
-use Rattle.host_name.specs.Addresses.{Address, address_cmp, is_same_address}
+use Rattle.host_name.specs.Addresses.{Address, address_cmp, is_same_address, is_same_address-true}
 use Rattle.hello_reply.specs.declared.server_description.ServerDescription.{ServerDescription}
 use Rattle.hello_reply.specs.Descriptions.{unknown as default_unknown_of}
-use Rattle.topo_rules.specs.Maps.{ServerMap, tabulate, known_or_new, joined}
-use Rattle.topo_rules.specs.Seen.{seen, unshared}
-use Rattle.topo_rules.proofs.HostOrder.{host_total, host_same, host_ties}
-use Rattle.topo_rules.proofs.HostTables.{entries-seen}
-use Rattle.topo_rules.proofs.Lists.{none_past}
+use Rattle.topo_rules.specs.Kinds.{is_primary}
+use Rattle.topo_rules.specs.Maps.{ServerMap, StandAtHosts, tabulate, known_or_new, joined, beside_primary}
+use Rattle.topo_rules.specs.Seen.{by_host, described, seen}
+use Rattle.topo_rules.proofs.HostOrder.{host_total, host_same}
+use Rattle.topo_rules.proofs.HostTables.{same_from_test}
 use Rattle.topo_rules.proofs.Places.{distinct_keys}
 
 -- the host is one of the list
 abbrev pub among : Address → List Address → Bool
 among q xs = list_any (eq_by_cmp address_cmp q) xs
-
-equal_is : (r : Ordering) → is_eq r ≡ true → r ≡ Equal
-equal_is Less e = absurd (true≢false (sym e))
-equal_is Equal e = refl
-equal_is Greater e = absurd (true≢false (sym e))
-
-pub same_from_test : (q x : Address) → eq_by_cmp address_cmp q x ≡ true → x ≡ q
-same_from_test q x e = sym (host_same q x (equal_is (address_cmp q x) e))
 
 find-tabulate : (f : Address → ServerDescription) (q : Address) (xs : List Address) → map.find address_cmp q (map (λ x. (x, f x)) xs) ≡ cond (among q xs) (Some (f q)) None
 find-tabulate f q [] = refl
@@ -46,51 +35,6 @@ find-tabulate f q (x ∷ xs) = by (eq_by_cmp address_cmp q x) refl (find-tabulat
 pub get-tabulate : (f : Address → ServerDescription) (q : Address) (xs : List Address) → map.get (tabulate xs f) q ≡ cond (among q xs) (Some (f q)) None
 get-tabulate f q xs = map.get-from_entries host_total (map (λ x. (x, f x)) xs) q ∙ find-tabulate f q xs
 
-among-push : (q x : Address) (xs : List Address) → among q (xs ++ x ∷ []) ≡ (eq_by_cmp address_cmp q x || among q xs)
-among-push q x [] = refl
-among-push q x (y ∷ xs) = ap (λ b. eq_by_cmp address_cmp q y || b) (among-push q x xs) ∙ swap (eq_by_cmp address_cmp q y) (eq_by_cmp address_cmp q x) (among q xs)
-  where
-    swap : (a b c : Bool) → (a || (b || c)) ≡ (b || (a || c))
-    swap true true c = refl
-    swap true false c = refl
-    swap false b c = refl
-
-pub tabulate-push : (f : Address → ServerDescription) (x : Address) (xs : List Address) → tabulate (xs ++ x ∷ []) f ≡ map.insert (tabulate xs f) x (f x)
-tabulate-push f x xs = map.same_map host_total host_same _ _ (λ q.
-    get-tabulate f q (xs ++ x ∷ []) ∙ ap (λ b. cond b (Some (f q)) None) (among-push q x xs) ∙ by q (eq_by_cmp address_cmp q x) refl
-    ∙ sym (map.get-insert host_total (tabulate xs f) x (f x) q ∙ ap (cond (eq_by_cmp address_cmp q x) (Some (f x))) (get-tabulate f q xs)))
-  where
-    by : (q : Address) (b : Bool) → eq_by_cmp address_cmp q x ≡ b → cond (b || among q xs) (Some (f q)) None ≡ cond b (Some (f x)) (cond (among q xs) (Some (f q)) None)
-    by q true e = ap (λ y. Some (f y)) (sym (same_from_test q x e))
-    by q false e = refl
-
--- the step of a map made of a list
-pub tabulate-more : (f : Address → ServerDescription) (xs : List Address) (i : ℕ) (x : Address) → i < length xs → x ≡ get_or xs i x → tabulate (take (i + 1) xs) f ≡ map.insert (tabulate (take i xs) f) x (f x)
-tabulate-more f xs i x below is =
-    ap (λ ys. tabulate ys f) (take_more xs i x below ∙ ap (λ y. take i xs ++ y ∷ []) (sym is)) ∙ tabulate-push f x (take i xs)
-
--- the step behind the hosts that stand already
-pub joined-more : (m : ServerMap) (xs : List Address) (i : ℕ) (x : Address) → i < length xs → x ≡ get_or xs i x → joined m (take (i + 1) xs) ≡ map.insert (joined m (take i xs)) x (known_or_new m x)
-joined-more m xs i x below is =
-    ap (λ ys. tabulate (map.keys m ++ ys) (known_or_new m)) (take_more xs i x below ∙ ap (λ y. take i xs ++ y ∷ []) (sym is))
-    ∙ ap (λ ys. tabulate ys (known_or_new m)) (sym (append_assoc (map.keys m) (take i xs) (x ∷ []))) ∙ tabulate-push (known_or_new m) x (map.keys m ++ take i xs)
-
--- the map itself, by what it says of its hosts
-pub tabulate-keys : (m : ServerMap) → tabulate (map.keys m) (known_or_new m) ≡ m
-tabulate-keys m = map.same_map host_total host_same _ _ (λ q.
-    get-tabulate (known_or_new m) q (map.keys m) ∙ ap (λ b. cond b (Some (known_or_new m q)) None) (sym (map.contains_key-keys m q)) ∙ by q (map.get m q))
-  where
-    by : (q : Address) (o : Option ServerDescription) → cond (is_some o) (Some (unwrap_or o (default_unknown_of q))) None ≡ o
-    by q None = refl
-    by q (Some d) = refl
-
-take_none : {A : Type 0} (xs : List A) → take 0 xs ≡ []
-take_none [] = refl
-take_none (x ∷ xs) = refl
-
-pub joined_none : (m : ServerMap) (xs : List Address) → joined m (take 0 xs) ≡ m
-joined_none m xs = ap (λ ys. tabulate (map.keys m ++ ys) (known_or_new m)) (take_none xs) ∙ ap (λ ys. tabulate ys (known_or_new m)) (append-nil (map.keys m)) ∙ tabulate-keys m
-
 lookup-find_by_order : {X : Type 0} (q : Address) (es : List (Address × X)) → lookup (eq_by_cmp address_cmp q) es ≡ map.find address_cmp q es
 lookup-find_by_order q [] = refl
 lookup-find_by_order q (e ∷ es) = ap (cond (eq_by_cmp address_cmp q e.0) (Some e.1)) (lookup-find_by_order q es)
@@ -99,42 +43,55 @@ lookup-find_by_order q (e ∷ es) = ap (cond (eq_by_cmp address_cmp q e.0) (Some
 pub get_at : (m : ServerMap) (i : ℕ) (e : Address × ServerDescription) → slice_get (map.entries m) i ≡ Some e → map.get m e.0 ≡ Some e.1
 get_at m i e at =
     map.get-entries m e.0 ∙ sym (lookup-find_by_order e.0 (map.entries m))
-    ∙ lookup_from_place (eq_by_cmp_equiv host_total) (map.entries m) i e.0 e.1 (distinct_keys address_cmp is_same_address host_total host_same host_ties (map.entries m) (map.entries_sorted m)) at
+    ∙ lookup_from_place (eq_by_cmp_equiv host_total) (map.entries m) i e.0 e.1 (distinct_keys address_cmp (map.entries m) (map.entries_sorted m)) at
 
--- the step of a copy
-copied_entries-more : (m : ServerMap) (i : ℕ)
-    → tabulate (take (i + 1) (map.keys m)) (known_or_new m) ≡ option_map_or (λ e. map.insert (tabulate (take i (map.keys m)) (known_or_new m)) e.0 e.1) (slice_get (map.entries m) i) (tabulate (take i (map.keys m)) (known_or_new m))
-copied_entries-more m i = by (slice_get (map.entries m) i) refl
+-- a list that is made of hosts, each beside its own host
+by_host-map : (f : Address → ServerDescription) → ((x : Address) → (f x).host ≡ x) → (xs : List Address) → by_host (map f xs) ≡ map (λ x. (x, f x)) xs
+by_host-map f own [] = refl
+by_host-map f own (x ∷ xs) = λ i. (own x i, f x) ∷ by_host-map f own xs i
+
+pub seen-tabulate : {Z : Type 0} (f : Address → ServerDescription) → ((x : Address) → (f x).host ≡ x) → (es : List (Arc ServerDescription Z)) (xs : List Address) → described es ≡ map f xs → seen es ≡ tabulate xs f
+seen-tabulate f own es xs e = ap (λ ds. map.from_entries {R = address_cmp} (by_host ds)) e ∙ ap (λ fs. map.from_entries {R = address_cmp} fs) (by_host-map f own xs)
+
+map-push : {A B : Type 0} (f : A → B) (xs : List A) (x : A) → map f (xs ++ x ∷ []) ≡ map f xs ++ f x ∷ []
+map-push f [] x = refl
+map-push f (y ∷ xs) x = ap (λ ys. f y ∷ ys) (map-push f xs x)
+
+-- the step of a loop that makes one item of each
+pub map_more : {A B : Type 0} (f : A → B) (xs : List A) (i : ℕ) (x : A) → i < length xs → x ≡ get_or xs i x → map f (take (i + 1) xs) ≡ map f (take i xs) ++ f x ∷ []
+map_more f xs i x below is = ap (map f) (take_more xs i x below ∙ ap (λ y. take i xs ++ y ∷ []) (sym is)) ∙ map-push f (take i xs) x
+
+map-append : {A B : Type 0} (f : A → B) (xs ys : List A) → map f (xs ++ ys) ≡ map f xs ++ map f ys
+map-append f [] ys = refl
+map-append f (x ∷ xs) ys = ap (λ zs. f x ∷ zs) (map-append f xs ys)
+
+known-values : (m : ServerMap) (es : List (Address × ServerDescription)) → ((i : ℕ) (e : Address × ServerDescription) → slice_get es i ≡ Some e → map.get m e.0 ≡ Some e.1)
+    → map (known_or_new m) (map (λ (e : Address × ServerDescription). e.0) es) ≡ map (λ (e : Address × ServerDescription). e.1) es
+known-values m [] at = refl
+known-values m (e ∷ es) at = λ j. unwrap_or (at 0 e refl j) (default_unknown_of e.0) ∷ known-values m es (λ i f is. at (suc i) f is) j
+
+-- what the map has, and then what is known of further hosts
+pub joined-values : (m : ServerMap) (xs : List Address) → map (known_or_new m) (map.keys m ++ xs) ≡ map.values m ++ map (known_or_new m) xs
+joined-values m xs = map-append (known_or_new m) (map.keys m) xs ∙ ap (λ ds. ds ++ map (known_or_new m) xs) (known-values m (map.entries m) (get_at m))
+
+pub known-host : (m : ServerMap) → StandAtHosts m → (x : Address) → (known_or_new m x).host ≡ x
+known-host m own x = by (map.get m x) refl
   where
-    by : (o : Option (Address × ServerDescription)) → slice_get (map.entries m) i ≡ o
-        → tabulate (take (i + 1) (map.keys m)) (known_or_new m) ≡ option_map_or (λ e. map.insert (tabulate (take i (map.keys m)) (known_or_new m)) e.0 e.1) o (tabulate (take i (map.keys m)) (known_or_new m))
-    by None e =
-        let past : length (map.keys m) ≤ i = omega (arith, length-keys_of (map.entries m), none_past (map.entries m) i e) in
-        ap (λ xs. tabulate xs (known_or_new m)) (take_all (i + 1) (map.keys m) (omega arith) ∙ sym (take_all i (map.keys m) past))
-    by (Some e) at =
-        let within : i < length (map.entries m) = slice_get_within (map.entries m) i e at in
-        let key : get_or (map.keys m) i e.0 ≡ e.0 = get_or-map (λ (e : Address × ServerDescription). e.0) (map.entries m) i e e.0 within ∙ ap (λ (e : Address × ServerDescription). e.0) (get_or_from_slice_get (map.entries m) i e e at) in
-        tabulate-more (known_or_new m) (map.keys m) i e.0 (subst (λ n. i < n) (sym (length-keys_of (map.entries m))) within) (sym key)
-        ∙ ap (λ d. map.insert (tabulate (take i (map.keys m)) (known_or_new m)) e.0 d) (ap (λ o. unwrap_or o (default_unknown_of e.0)) (get_at m i e at))
+    by : (o : Option ServerDescription) → map.get m x ≡ o → (unwrap_or o (default_unknown_of x)).host ≡ x
+    by None e = refl
+    by (Some d) e = own.at x d e
 
--- the same, from a table whose entries stand in order
-pub copied-more : {Z : Type 0} (es : List (Address × Arc ServerDescription Z)) → T (map.is_sorted address_cmp (unshared es)) → (m : ServerMap) → seen es ≡ m → (i : ℕ)
-    → tabulate (take (i + 1) (map.keys m)) (known_or_new m) ≡ option_map_or (λ e. map.insert (tabulate (take i (map.keys m)) (known_or_new m)) e.0 (arc_value e.1)) (slice_get es i) (tabulate (take i (map.keys m)) (known_or_new m))
-copied-more {Z} es sorted m is i =
-    copied_entries-more m i
-    ∙ ap (λ fs. option_map_or (λ (e : Address × ServerDescription). map.insert old e.0 e.1) (slice_get fs i) old) (ap map.entries (sym is) ∙ entries-seen es sorted)
-    ∙ ap (λ o. option_map_or (λ (e : Address × ServerDescription). map.insert old e.0 e.1) o old) (slice_get-map opener es i)
-    ∙ through (slice_get es i)
+pub beside-host : (m : ServerMap) (p : ServerDescription) → StandAtHosts m → (x : Address) → (beside_primary m p x).host ≡ x
+beside-host m p own x = by (is_same_address x p.host) refl
   where
-    old : ServerMap
-    old = tabulate (take i (map.keys m)) (known_or_new m)
+    rest : (b : Bool) → (if b then default_unknown_of x else known_or_new m x).host ≡ x
+    rest true = refl
+    rest false = known-host m own x
 
-    opener : Address × Arc ServerDescription Z → Address × ServerDescription
-    opener e = (e.0, arc_value e.1)
+    by : (b : Bool) → is_same_address x p.host ≡ b → (if b then p else (if is_primary (known_or_new m x) then default_unknown_of x else known_or_new m x)).host ≡ x
+    by true e = sym (is_same_address-true x p.host e)
+    by false e = rest (is_primary (known_or_new m x))
 
-    through : (o : Option (Address × Arc ServerDescription Z)) → option_map_or (λ (e : Address × ServerDescription). map.insert old e.0 e.1) (option_map opener o) old ≡ option_map_or (λ (e : Address × Arc ServerDescription Z). map.insert old e.0 (arc_value e.1)) o old
-    through None = refl
-    through (Some e) = refl
-
-pub copied_all : (m : ServerMap) (i : ℕ) → map.len m ≤ i → tabulate (take i (map.keys m)) (known_or_new m) ≡ m
-copied_all m i past = ap (λ xs. tabulate xs (known_or_new m)) (take_all i (map.keys m) (omega (arith, length-keys_of (map.entries m), map.len-entries m))) ∙ tabulate-keys m
+pub take_none : {A : Type 0} (xs : List A) → take 0 xs ≡ []
+take_none [] = refl
+take_none (x ∷ xs) = refl

@@ -1,10 +1,11 @@
 -- What an event changed, read off the topologies before and behind it.
-use Rattle.std.specs.Prelude.{◌≡◌, Bool, true, false, not, ◌&&◌, ◌||◌, ◌↔◌, IsFalse, if◌then◌else◌, List, map, filter, Option, None, Some, is_some}
+use Rattle.std.specs.Prelude.{◌≡◌, Bool, true, false, not, ◌&&◌, ◌||◌, ◌↔◌, IsTrue, IsFalse, if◌then◌else◌, List, map, filter, Option, None, Some, is_some}
 use Rattle.std.specs.Option.{option_map_or}
 use Rattle.std.specs.FinMap as map
 use Rattle.host_name.specs.Addresses.{Address}
 use Rattle.hello_reply.specs.declared.server_description.ServerDescription.{ServerDescription}
 use Rattle.topo_rules.specs.declared.change.Change.{Change}
+use Rattle.topo_rules.specs.declared.compared.Moves.{Moves}
 use Rattle.topo_rules.specs.declared.event.TopoEvent.{TopoEvent}
 use Rattle.topo_rules.specs.declared.event.TopoEvent.TheVariants.{Reply, Broken, Refused}
 use Rattle.topo_rules.specs.declared.kind.TopoKind.{TopoKind}
@@ -25,6 +26,10 @@ is_single _ = false
 abbrev pub serves : Topology → ServerDescription → Bool
 serves t d = bears_data d || is_single t.kind && is_known d
 
+-- The topology has the host, and a pool may serve it.
+abbrev pub serves_host : Topology → Address → Bool
+serves_host t host = option_map_or (serves t) (map.get t.servers host) false
+
 -- The host is in the map.
 abbrev pub stands : Topology → Address → Bool
 stands t host = is_some (map.get t.servers host)
@@ -33,7 +38,7 @@ stands t host = is_some (map.get t.servers host)
 -- Management: the pool is marked ready once the server is discovered as data-bearing).
 abbrev pub ready_after : TopoEvent → Topology → Option Address
 ready_after (Reply description sample) new =
-    if option_map_or (serves new) (map.get new.servers description.host) false then Some description.host else None
+    if serves_host new description.host then Some description.host else None
 ready_after _ new = None
 
 -- The host whose pool is cleared behind the event: that of a broken check or connection, and that of a refusal by a server
@@ -64,6 +69,12 @@ pub record SameButMeans (old new : Topology) : Type 0 where
   pub max_election : old.max_election ≡ new.max_election
   pub max_set_version : old.max_set_version ≡ new.max_set_version
   pub servers : plain old.servers ≡ plain new.servers
+
+-- What an event changes of the servers, read off the maps before and behind it.
+pub record IsMoves (old new : ServerMap) (c : Moves) : Type 0 where
+  pub added : c.added ≡ hosts_beyond new old
+  pub removed : c.removed ≡ hosts_beyond old new
+  pub same : IsTrue c.same ↔ (plain old ≡ plain new)
 
 -- What a change says of the event and the topologies before and behind it.
 pub record IsChange (old : Topology) (event : TopoEvent) (new : Topology) (c : Change) : Type 0 where

@@ -4,7 +4,7 @@ use Rattle.hello_reply.specs.declared.server_description.ServerDescription.{Serv
 use Rattle.hello_reply.specs.declared.server_kind.ServerKind.{ServerKind}
 use Rattle.hello_reply.specs.declared.server_kind.ServerKind.TheVariants as server
 
--- The server answered when it was last heard of.
+-- Another kind than Unknown: a reply told it, and nothing has put an Unknown in its place since.
 abbrev pub is_known_kind : ServerKind → Bool
 is_known_kind server.Unknown = false
 is_known_kind _ = true

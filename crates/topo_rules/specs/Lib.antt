@@ -1,7 +1,9 @@
 pub mod Cells
 pub mod Changes
 pub mod Kinds
+pub mod Laws
 pub mod Maps
+pub mod Outcomes
 pub mod Primaries
 pub mod Readings
 pub mod Rules

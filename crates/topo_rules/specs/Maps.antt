@@ -1,6 +1,7 @@
 -- Finite maps from hosts to descriptions (SDAM, TopologyDescription: servers).
-use Rattle.std.specs.Prelude.{ℕ, Option, Bool, if◌then◌else◌, List, ◌++◌, map}
+use Rattle.std.specs.Prelude.{◌≡◌, ℕ, Option, Some, Bool, if◌then◌else◌, List, ◌++◌, map}
 use Rattle.std.specs.List.{list_any}
+use Rattle.std.specs.List.Sorted.{IsStrictlySortedBy}
 use Rattle.std.specs.Option.{option_and_then, unwrap_or}
 use Rattle.std.specs.FinMap as map
 use Rattle.host_name.specs.Addresses.{Address, address_cmp, is_same_address}
@@ -11,6 +12,15 @@ use Rattle.topo_rules.specs.Kinds.{is_primary}
 -- A map from hosts to descriptions: its entries stand in the order of hosts.
 abbrev pub ServerMap : Type 0
 ServerMap = map.FinMap address_cmp ServerDescription
+
+-- What stands at a host is that host's description (SDAM, ServerDescription: address).
+pub record StandAtHosts (m : ServerMap) : Type 0 where
+  pub at : (x : Address) (d : ServerDescription) → map.get m x ≡ Some d → d.host ≡ x
+
+-- The hosts of the map stand in their order, each below all that come after it: by the bytes of their names, and then by
+-- their ports (own: the standard has no order).
+pub record StandInOrder (m : ServerMap) : Type 0 where
+  pub rise : IsStrictlySortedBy address_cmp (map.keys m)
 
 -- The map whose hosts are exactly those listed, each with what f says of it.
 abbrev pub tabulate : List Address → (Address → ServerDescription) → ServerMap
@@ -28,17 +38,17 @@ kept_mean m host = option_and_then (λ d. d.mean) (map.get m host)
 abbrev pub joined : ServerMap → List Address → ServerMap
 joined m hosts = tabulate (map.keys m ++ hosts) (known_or_new m)
 
--- What stands of a host once the primary d reigns: d itself for its own host; a default Unknown for another primary, and
--- for a host that is not in the map; for the rest what stood (SDAM, updateRSFromPrimary).
-abbrev pub under : ServerMap → ServerDescription → Address → ServerDescription
-under m d x =
+-- What stands at a host that the primary d lists: d itself at its own host; a default Unknown where another primary stood,
+-- and at a host that is not in the map; at the rest what stood (SDAM, updateRSFromPrimary).
+abbrev pub beside_primary : ServerMap → ServerDescription → Address → ServerDescription
+beside_primary m d x =
     if is_same_address x d.host then d
     else (let old = known_or_new m x in if is_primary old then default_unknown_of x else old)
 
--- The map under the primary d: its hosts are exactly those that d lists (SDAM, updateRSFromPrimary: the primary is the
--- authority on which servers are in the set).
-abbrev pub reign : ServerMap → ServerDescription → ServerMap
-reign m d = tabulate d.listed (under m d)
+-- The servers behind the primary d: their hosts are exactly those that d lists (SDAM, updateRSFromPrimary: remove servers that
+-- the primary does not list, add those that it does).
+abbrev pub servers_of_primary : ServerMap → ServerDescription → ServerMap
+servers_of_primary m d = tabulate d.listed (beside_primary m d)
 
 -- Some server of the map is a primary.
 abbrev pub has_primary : ServerMap → Bool

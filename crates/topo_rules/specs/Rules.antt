@@ -17,7 +17,7 @@ use Rattle.topo_rules.specs.declared.maxima.Maxima.{Maxima}
 use Rattle.topo_rules.specs.declared.topology.Topology.{Topology}
 use Rattle.topo_rules.specs.Cells.{cell_of}
 use Rattle.topo_rules.specs.Kinds.{is_known}
-use Rattle.topo_rules.specs.Maps.{ServerMap, kept_mean, tabulate, joined, reign, has_primary}
+use Rattle.topo_rules.specs.Maps.{ServerMap, kept_mean, tabulate, joined, servers_of_primary, has_primary}
 use Rattle.topo_rules.specs.Primaries.{judged}
 
 -- ---- The start
@@ -69,8 +69,8 @@ abbrev pub me_differs : ServerDescription → Bool
 me_differs d = option_map_or (λ me. not (is_same_address me d.host)) d.me false
 
 -- checkIfHasPrimary: the kind is WithPrimary where some server is a primary, else NoPrimary.
-abbrev pub checked : Topology → Topology
-checked t = record t { kind = if has_primary t.servers then topo.WithPrimary else topo.NoPrimary }
+abbrev pub check_if_has_primary : Topology → Topology
+check_if_has_primary t = record t { kind = if has_primary t.servers then topo.WithPrimary else topo.NoPrimary }
 
 abbrev pub without : Topology → Address → Topology
 without t host = record t { servers = map.remove t.servers host }
@@ -78,61 +78,63 @@ without t host = record t { servers = map.remove t.servers host }
 abbrev pub placed : Topology → ServerDescription → Topology
 placed t d = record t { servers = map.insert t.servers d.host d }
 
--- The server becomes a default Unknown.
-abbrev pub forgotten : Topology → Address → Topology
-forgotten t host = record t { servers = map.insert t.servers host (default_unknown_of host) }
+-- A default Unknown stands at the host.
+abbrev pub set_unknown : Topology → Address → Topology
+set_unknown t host = record t { servers = map.insert t.servers host (default_unknown_of host) }
 
 -- The set name stays, or is taken where none is known.
 abbrev pub taken_name : Topology → Option (List ℕ) → Topology
 taken_name t came = record t { set_name = option_or t.set_name came }
 
--- TopologyType Single: the description is kept, but a default Unknown stands in its place where the topology has a set name
--- and the description another one or none. This is read as it stands: it holds for an Unknown too.
-abbrev pub updated_single : Topology → ServerDescription → Topology
-updated_single t d = if name_differs t.set_name d.set_name then forgotten t d.host else t
+-- TopologyType Single: the description is kept, but a default Unknown stands in its place where it is known, the topology has
+-- a set name, and the description another one or none. An Unknown stays as it is, with the topology version that a refusal
+-- gave it.
+abbrev pub update_single : Topology → ServerDescription → Topology
+update_single t d = if is_known d && name_differs t.set_name d.set_name then set_unknown t d.host else t
 
 -- updateUnknownWithStandalone: the only seed makes the topology Single; another standalone is removed.
-abbrev pub updated_with_standalone : Topology → ServerDescription → Topology
-updated_with_standalone t d = if t.seeds == 1 then record t { kind = topo.Single } else without t d.host
+abbrev pub update_unknown_with_standalone : Topology → ServerDescription → Topology
+update_unknown_with_standalone t d = if t.seeds == 1 then record t { kind = topo.Single } else without t d.host
 
 -- updateRSWithoutPrimary: a server of another set is removed; else the set name stays or is taken, each listed host that is
 -- not there is added, and a server whose `me` is another host is removed.
-abbrev pub updated_without_primary : Topology → ServerDescription → Topology
-updated_without_primary t d =
+abbrev pub update_rs_without_primary : Topology → ServerDescription → Topology
+update_rs_without_primary t d =
     if name_differs t.set_name d.set_name then without t d.host
     else (let all = joined t.servers d.listed in
     record t { set_name = option_or t.set_name d.set_name; servers = if me_differs d then map.remove all d.host else all })
 
 -- updateRSWithPrimaryFromMember: a server of another set, or whose `me` is another host, is removed.
-abbrev pub updated_with_primary_from_member : Topology → ServerDescription → Topology
-updated_with_primary_from_member t d =
-    checked (if name_differs t.set_name d.set_name || me_differs d then without t d.host else t)
+abbrev pub update_rs_with_primary_from_member : Topology → ServerDescription → Topology
+update_rs_with_primary_from_member t d =
+    check_if_has_primary (if name_differs t.set_name d.set_name || me_differs d then without t d.host else t)
 
--- A stale primary becomes a default Unknown; another one gives the maxima and reigns.
-abbrev pub crowned : Topology → ServerDescription → Option Maxima → Topology
-crowned t d None = forgotten t d.host
-crowned t d (Some most) = record t { max_election = most.election; max_set_version = most.version; servers = reign t.servers d }
+-- What a primary's verdict makes: a stale primary becomes a default Unknown; of another one the maxima behind it are taken,
+-- and the servers are those that it lists.
+abbrev pub with_verdict : Topology → ServerDescription → Option Maxima → Topology
+with_verdict t d None = set_unknown t d.host
+with_verdict t d (Some most) = record t { max_election = most.election; max_set_version = most.version; servers = servers_of_primary t.servers d }
 
 -- updateRSFromPrimary: a server of another set is removed; else the set name stays or is taken, and the primary is judged.
-abbrev pub updated_from_primary : Topology → ServerDescription → Topology
-updated_from_primary t d =
-    checked (if name_differs t.set_name d.set_name then without t d.host
-    else crowned (taken_name t d.set_name) d (judged d (record { election = t.max_election; version = t.max_set_version })))
+abbrev pub update_rs_from_primary : Topology → ServerDescription → Topology
+update_rs_from_primary t d =
+    check_if_has_primary (if name_differs t.set_name d.set_name then without t d.host
+    else with_verdict (taken_name t d.set_name) d (judged d (record { election = t.max_election; version = t.max_set_version })))
 
 -- What a cell makes of a topology that has the new description already.
 abbrev pub settled : Cell → Topology → ServerDescription → Topology
-settled UpdateSingle t d = updated_single t d
+settled UpdateSingle t d = update_single t d
 settled Keep t d = t
 settled Remove t d = without t d.host
-settled UpdateUnknownWithStandalone t d = updated_with_standalone t d
+settled UpdateUnknownWithStandalone t d = update_unknown_with_standalone t d
 settled BecomeSharded t d = record t { kind = topo.Sharded }
-settled BecomeWithPrimary t d = updated_from_primary (record t { kind = topo.WithPrimary }) d
-settled BecomeNoPrimary t d = updated_without_primary (record t { kind = topo.NoPrimary }) d
-settled UpdateFromPrimary t d = updated_from_primary t d
-settled UpdateWithoutPrimary t d = updated_without_primary t d
-settled UpdateWithPrimaryFromMember t d = updated_with_primary_from_member t d
-settled CheckIfHasPrimary t d = checked t
-settled RemoveAndCheck t d = checked (without t d.host)
+settled BecomeWithPrimary t d = update_rs_from_primary (record t { kind = topo.WithPrimary }) d
+settled BecomeNoPrimary t d = update_rs_without_primary (record t { kind = topo.NoPrimary }) d
+settled UpdateFromPrimary t d = update_rs_from_primary t d
+settled UpdateWithoutPrimary t d = update_rs_without_primary t d
+settled UpdateWithPrimaryFromMember t d = update_rs_with_primary_from_member t d
+settled CheckIfHasPrimary t d = check_if_has_primary t
+settled RemoveAndCheck t d = check_if_has_primary (without t d.host)
 
 -- The topology after an event: the new description is put in, and then the table's cell does its part.
 abbrev pub after : Topology → TopoEvent → Topology

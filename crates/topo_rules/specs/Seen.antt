@@ -1,4 +1,4 @@
--- The map that a table of hosts and shared descriptions stands for.
+-- The map that a table of shared descriptions stands for.
 use Rattle.std.specs.Prelude.{List, map}
 use Rattle.std.specs.FinMap as map
 use Rattle.std.specs.Arc.{arc_value}
@@ -7,10 +7,14 @@ use Rattle.host_name.specs.Addresses.{Address}
 use Rattle.hello_reply.specs.declared.server_description.ServerDescription.{ServerDescription}
 use Rattle.topo_rules.specs.Maps.{ServerMap}
 
--- The entries, with the descriptions that they share.
-abbrev pub unshared : {X Z : Type 0} → List (Address × Arc X Z) → List (Address × X)
-unshared es = map (λ e. (e.0, arc_value e.1)) es
+-- The descriptions of the table, without the pointers that share them.
+abbrev pub described : {Z : Type 0} → List (Arc ServerDescription Z) → List ServerDescription
+described table = map (λ s. arc_value s) table
 
--- The map of the entries.
-abbrev pub seen : {Z : Type 0} → List (Address × Arc ServerDescription Z) → ServerMap
-seen es = map.from_entries (unshared es)
+-- Each description beside its own host.
+abbrev pub by_host : List ServerDescription → List (Address × ServerDescription)
+by_host ds = map (λ d. (d.host, d)) ds
+
+-- The map of the table: at each host the first description that names it.
+abbrev pub seen : {Z : Type 0} → List (Arc ServerDescription Z) → ServerMap
+seen table = map.from_entries (by_host (described table))

@@ -9,7 +9,8 @@ const LEAST_WIRE: i32 = 13;
 
 const GREATEST_WIRE: i32 = 25;
 
-/// Whether the server answered when it was last heard of.
+/// Whether the description is of another kind than Unknown: a reply told it, and no error, refusal or rule has put a default
+/// Unknown in its place since.
 pub fn is_known(description: &ServerDescription) -> bool
     ensures { result ≡ is_known_lem description.now }
 {

@@ -13,15 +13,18 @@
 
 mod cell;
 mod change;
+mod compared;
 mod event;
 mod kind;
 mod kinds;
+pub mod laws;
+mod made;
 mod maxima;
+mod outcome;
 mod primary;
 mod readings;
 mod rules;
 mod same;
-mod same_topologies;
 mod served;
 mod servers;
 mod table;

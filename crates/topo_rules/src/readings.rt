@@ -2,26 +2,25 @@ ghost use Rattle.std.specs.Prelude.{◌≡◌, fold, find, option_copied};
 ghost use Rattle.std.specs.List.{list_any};
 ghost use Rattle.std.specs.Option.{option_map, unwrap_or};
 ghost use Rattle.std.specs.Arc.{arc_value};
-ghost use Rattle.indexmap.specs.IndexMap.{values};
 ghost use Rattle.topo_rules.specs.Kinds.{is_primary as is_primary_lem};
 ghost use Rattle.topo_rules.specs.Readings.{lesser as lesser_lem, lowered as lowered_lem, is_misfit as is_misfit_lem};
 
 use crate::kinds::{bears_data, is_misfit, is_primary};
-use crate::table::Table;
+use crate::table::Shared;
 use hello_reply::ServerDescription;
 
 /// Whether some server of the table is a primary.
-pub fn some_is_primary(table: &Table) -> bool
-    ensures { result ≡ list_any (λ s. is_primary_lem (arc_value s)) (values table.now) }
+pub fn some_is_primary(table: &[Shared]) -> bool
+    ensures { result ≡ list_any (λ s. is_primary_lem (arc_value s)) table.now }
 {
-    table.values().any(|shared| is_primary(shared))
+    table.iter().any(|shared| is_primary(shared))
 }
 
 /// The first misfit of the table.
-pub fn first_misfit(table: &Table) -> Option<&ServerDescription>
-    ensures { option_copied result ≡ option_map (λ s. arc_value s) (find (λ s. is_misfit_lem (arc_value s)) (values table.now)) }
+pub fn first_misfit(table: &[Shared]) -> Option<&ServerDescription>
+    ensures { option_copied result ≡ option_map (λ s. arc_value s) (find (λ s. is_misfit_lem (arc_value s)) table.now) }
 {
-    match table.values().find(|shared| is_misfit(shared)) {
+    match table.iter().find(|shared| is_misfit(shared)) {
         Some(shared) => Some(&**shared),
         None => None,
     }
@@ -51,11 +50,11 @@ fn lowered(lowest: Option<Option<i64>>, description: &ServerDescription) -> Opti
 }
 
 /// The least session timeout of the table's data-bearing servers.
-pub fn least_minutes(table: &Table) -> Option<i64>
-    ensures { result ≡ unwrap_or (fold (λ lowest s. lowered_lem lowest (arc_value s)) None (values table.now)) None }
+pub fn least_minutes(table: &[Shared]) -> Option<i64>
+    ensures { result ≡ unwrap_or (fold (λ lowest s. lowered_lem lowest (arc_value s)) None table.now) None }
 {
     let lowest: Option<Option<i64>> = table
-        .values()
+        .iter()
         .fold(None, |lowest, shared| lowered(lowest, shared));
     match lowest {
         Some(lowest) => lowest,

@@ -22,8 +22,11 @@ fn primary(alloc: Global, host: &Host) -> Result<TopoEvent, Fail> {
 }
 
 fn started(alloc: Global, name: &str) -> Result<Topology, Fail> {
-    let host = Host::parse(alloc, name)?;
-    Ok(Topology::start(alloc, &[host], None, false)?)
+    let hosts = [Host::parse(alloc, name)?];
+    if !Topology::may_start(alloc, &hosts, false)? {
+        return Err(Fail::from("no hosts to start with"));
+    }
+    Ok(Topology::start(alloc, &hosts, None, false)?)
 }
 
 #[test]

@@ -1,7 +1,6 @@
 use Rattle.std.proofs.Common.{sym, ap, ◌∙◌}
 use Rattle.std.specs.Arc.{arc_value}
 use Rattle.std.specs.List.{list_any}
-use Rattle.std.specs.Map.{values_of}
 use Rattle.topo_rules.specs.Kinds.{is_primary}
 use Rattle.topo_rules.specs.Maps.{has_primary}
 use Rattle.topo_rules.proofs.HostTables.{values-seen}
@@ -10,5 +9,5 @@ use Rattle.topo_rules.proofs.servers.Servers.has_primary.Goals as goal
 
 pub returns : goal.returns
 returns c =
-    c.some_is_primary.ensures ∙ list_any-shared (λ s. arc_value s) is_primary (values_of c.self.inside.table.entries)
-    ∙ ap (list_any is_primary) (sym (values-seen c.self.inside.table.entries c.self.invariant)) ∙ ap has_primary c.self.view_is
+    c.some_is_primary.ensures ∙ list_any-shared (λ s. arc_value s) is_primary c.rows.result.now
+    ∙ ap (list_any is_primary) (sym (values-seen c.rows.result.now c.rows.ensures.order)) ∙ ap has_primary c.rows.ensures.seen

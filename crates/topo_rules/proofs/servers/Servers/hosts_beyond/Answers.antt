@@ -11,5 +11,5 @@ loop-place-preserved c =
 pub returns : goal.returns
 returns c =
     let past : length (map.keys c.args.self.now) ≤ c.loop-place.place =
-    omega (arith, map.len-entries c.args.self.now, length-keys_of (map.entries c.args.self.now)) in
+    omega (arith, c.len-place-end.ensures.len, map.len-entries c.args.self.now, length-keys_of (map.entries c.args.self.now)) in
     c.loop-place.invariant ∙ ap (filter (λ x. not (is_some (map.get c.args.other.now x)))) (take_all c.loop-place.place (map.keys c.args.self.now) past)

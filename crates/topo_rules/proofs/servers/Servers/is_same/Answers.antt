@@ -5,7 +5,7 @@ use Rattle.topo_rules.proofs.servers.Servers.is_same.Goals as goal
 
 pub returns-then-len : goal.returns-then-len
 returns-then-len c =
-    (λ h. cc, λ e. absurd (c.if-len.true (c.len.ensures ∙ len-plain c.args.self.now ∙ ap length e ∙ sym (len-plain c.args.other.now) ∙ sym c.len-2.ensures)))
+    (λ h. cc, λ e. absurd (c.if-len.true (c.len.ensures.len ∙ len-plain c.args.self.now ∙ ap length e ∙ sym (len-plain c.args.other.now) ∙ sym c.len-2.ensures.len)))
 
 pub loop-place-preserved : goal.loop-place-preserved
 loop-place-preserved c =

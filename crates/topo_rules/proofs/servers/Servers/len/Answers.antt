@@ -1,7 +1,10 @@
-use Rattle.std.proofs.Common.{sym, ap, ◌∙◌}
+use Rattle.std.proofs.Common.{sym, ap, subst, ◌∙◌}
 use Rattle.std.specs.FinMap as map
-use Rattle.topo_rules.proofs.HostTables.{len-seen}
+use Rattle.topo_rules.proofs.HostTables.{len-seen, in_order}
 use Rattle.topo_rules.proofs.servers.Servers.len.Goals as goal
 
-pub returns : goal.returns
-returns c = c.len.ensures.len ∙ sym (len-seen c.self.inside.table.entries c.self.invariant) ∙ ap map.len c.self.view_is
+pub returns-clause-len : goal.returns-clause-len
+returns-clause-len c = sym (len-seen c.rows.result.now c.rows.ensures.order) ∙ ap (λ m. map.len m) c.rows.ensures.seen
+
+pub returns-clause-order : goal.returns-clause-order
+returns-clause-order c = in_order c.args.self.now

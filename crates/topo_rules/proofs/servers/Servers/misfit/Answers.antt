@@ -1,6 +1,5 @@
 use Rattle.std.proofs.Common.{sym, ap, ◌∙◌, find}
 use Rattle.std.specs.Arc.{arc_value}
-use Rattle.std.specs.Map.{values_of}
 use Rattle.topo_rules.specs.Readings.{is_misfit, misfit_of}
 use Rattle.topo_rules.proofs.HostTables.{values-seen}
 use Rattle.topo_rules.proofs.ReadingLemmas.{find-shared}
@@ -8,5 +7,5 @@ use Rattle.topo_rules.proofs.servers.Servers.misfit.Goals as goal
 
 pub returns : goal.returns
 returns c =
-    c.first_misfit.ensures ∙ find-shared (λ s. arc_value s) is_misfit (values_of c.self.inside.table.entries)
-    ∙ ap (find is_misfit) (sym (values-seen c.self.inside.table.entries c.self.invariant)) ∙ ap misfit_of c.self.view_is
+    c.first_misfit.ensures ∙ find-shared (λ s. arc_value s) is_misfit c.rows.result.now
+    ∙ ap (find is_misfit) (sym (values-seen c.rows.result.now c.rows.ensures.order)) ∙ ap misfit_of c.rows.ensures.seen

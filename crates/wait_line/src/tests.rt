@@ -16,7 +16,10 @@ fn serves_in_order(rt: HostRuntime) -> Result<(), Fail> {
     line.leave(1);
     line.leave(7);
     assert!(rt; !line.is_waiting(1));
-    assert_eq!(rt; (line.place(0), line.place(1), line.place(2)), (Some(0), None, Some(1)));
+    assert_eq!(rt;
+        (line.place(0), line.place(1), line.place(2)),
+        (Some(0), None, Some(1))
+    );
     assert!(rt; line.is_front(0) && !line.is_front(2));
     line.leave(0);
     assert!(rt; line.is_front(2));

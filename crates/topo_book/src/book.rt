@@ -29,6 +29,12 @@ impl Model for TopoBook {
 
     ghost Value = { Book };
 
+    ghost use Rattle.std.specs.Coded.{codes};
+    ghost use Rattle.topo_rules.specs.contracts.topology.Topology as topologies;
+    ghost use Rattle.topo_rules.specs.contracts.event.TopoEvent as events;
+
+    ghost coded = { Prim.hlevel (codes, topologies.the_row.coded, events.the_row.coded) };
+
     ghost view = { λ b. record { opening = b.opening; topology = unwrap_or b.current b.opening; accepted = b.accepted.items; room = b.accepted.room } };
 
     ghost invariant = { λ b. unwrap_or b.current b.opening ≡ folded b.opening b.accepted.items };

@@ -1,26 +1,22 @@
 -- The map that a table of descriptions stands for, and what is read off a table that stands in order.
-use Rattle.std.proofs.Common.{◌≡◌, ℕ, zero, suc, ◌+◌, ◌<◌, Bool, true, false, cond, not, List, [], ◌∷◌, ◌++◌, map, Option, None, Some, is_some, refl, sym, ap, subst, ◌∙◌, arith, T, slice_get, option_map, length, get_or, set, true≢false}
-use Rattle.std.proofs.lemmas.Cmp.{eq_by_cmp_equiv}
+use Rattle.std.proofs.Common.{◌≡◌, ℕ, Bool, true, false, cond, List, [], ◌∷◌, map, Option, None, Some, is_some, refl, sym, ap, subst, ◌∙◌, T, slice_get, option_map, length, true≢false}
 use Rattle.std.proofs.lemmas.List.{length-map}
 use Rattle.std.proofs.lemmas.Option.{slice_get-map}
 use Rattle.std.specs.Arc.{arc_value}
 use Rattle.std.specs.declared.sync.Arc.{Arc}
-use Rattle.std.specs.Cmp.{IsTotalOrder, on_total}
 use Rattle.std.specs.FinMap as map
-use Rattle.std.specs.FinMap.Entries.{find-where_key, where_key}
-use Rattle.std.specs.List.{AllByRecursion, filter}
 use Rattle.std.specs.List.Sorted.{IsStrictlySortedBy}
 use Rattle.std.specs.Map.{keys_of}
 use Rattle.std.specs.Option.{unwrap_or}
 use Rattle.std.specs.Ordering.{eq_by_cmp, is_eq}
 use Rattle.std.specs.declared.cmp.Ordering.{Ordering}
 use Rattle.std.specs.declared.cmp.Ordering.TheVariants.{Less, Equal, Greater}
-use Rattle.host_name.specs.Addresses.{Address, address_cmp, is_same_address}
+use Rattle.host_name.specs.Addresses.{Address, address_cmp}
 use Rattle.hello_reply.specs.declared.server_description.ServerDescription.{ServerDescription}
 use Rattle.topo_rules.specs.Maps.{ServerMap, StandAtHosts, StandInOrder}
 use Rattle.topo_rules.specs.Seen.{by_host, described, seen}
-use Rattle.topo_rules.proofs.HostOrder.{host_total, host_same, host_ties}
-use Rattle.topo_rules.proofs.Places.{entries-from_entries, strict_keys, strictly}
+use Rattle.topo_rules.proofs.HostOrder.{host_total, host_same}
+use Rattle.topo_rules.proofs.Places.{entries-from_entries, strict_keys}
 
 pub some_same : {A : Type 0} (x y : A) → Some x ≡ Some y → x ≡ y
 some_same x y e = ap (λ o. unwrap_or o x) e

@@ -1,5 +1,5 @@
 -- An event leaves at most one primary, and a kind that tells of it.
-use Rattle.std.proofs.Common.{◌≡◌, ℕ, zero, suc, ◌≤◌, Bool, true, false, cond, not, ◌&&◌, ◌||◌, if◌then◌else◌, eqb, eqb-true, List, [], ◌∷◌, ◌++◌, map, fold, length, Option, None, Some, is_some, refl, sym, ap, subst, ◌∙◌, arith, slice_get, true≢false}
+use Rattle.std.proofs.Common.{◌≡◌, ℕ, suc, Bool, true, false, cond, ◌&&◌, ◌||◌, if◌then◌else◌, eqb, eqb-true, List, [], ◌∷◌, map, length, Option, None, Some, is_some, refl, sym, ap, subst, ◌∙◌, arith, slice_get, true≢false}
 use Rattle.std.specs.FinMap as map
 use Rattle.std.specs.List.{list_any}
 use Rattle.std.specs.Option.{unwrap_or, option_or}
@@ -21,8 +21,8 @@ use Rattle.topo_rules.specs.Kinds.{is_known, is_primary, is_primary_kind}
 use Rattle.topo_rules.specs.Laws.{MayStart, behind_event, behind_events, AtMostOnePrimary, KindTellsPrimary, is_set_kind}
 use Rattle.topo_rules.specs.Maps.{ServerMap, tabulate, known_or_new, joined, beside_primary, servers_of_primary, has_primary}
 use Rattle.topo_rules.specs.Primaries.{judged}
-use Rattle.topo_rules.specs.Rules.{opened, start_kind, event_host, fresh, name_differs, me_differs, placed, without, set_unknown, taken_name, check_if_has_primary, update_rs_without_primary, with_verdict, update_rs_from_primary, settled, after}
-use Rattle.topo_rules.proofs.HostOrder.{host_total, host_same, host_ties}
+use Rattle.topo_rules.specs.Rules.{opened, event_host, fresh, name_differs, me_differs, placed, without, set_unknown, taken_name, check_if_has_primary, update_rs_without_primary, with_verdict, update_rs_from_primary, settled, after}
+use Rattle.topo_rules.proofs.HostOrder.{host_total, host_ties}
 use Rattle.topo_rules.proofs.HostTables.{some_same, same_from_test}
 use Rattle.topo_rules.proofs.OutcomeLemmas.{insert-insert, remove-insert}
 use Rattle.topo_rules.proofs.Tabulate.{among, get-tabulate, get_at}

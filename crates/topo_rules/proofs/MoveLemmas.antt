@@ -1,5 +1,5 @@
 -- What a description that is put at a host that stands changes: nothing of the hosts, and the description there.
-use Rattle.std.proofs.Common.{◌≡◌, ℕ, zero, suc, Bool, true, false, cond, not, ◌↔◌, List, [], ◌∷◌, map, filter, Option, None, Some, IsSome, is_some, refl, sym, ap, subst, ◌∙◌, T, ◌&&◌, option_map, slice_get, true≢false}
+use Rattle.std.proofs.Common.{◌≡◌, ℕ, suc, Bool, true, false, cond, not, ◌↔◌, List, [], ◌∷◌, map, filter, Option, None, Some, IsSome, is_some, refl, sym, ap, subst, ◌∙◌, T, ◌&&◌, option_map, slice_get, true≢false}
 use Rattle.std.specs.FinMap as map
 use Rattle.std.specs.FinMap.Entries.{put, by_order, below_all}
 use Rattle.std.specs.Cmp.{tied_itself}

@@ -10,7 +10,6 @@ use Rattle.hello_reply.specs.Descriptions.{unknown as default_unknown_of}
 use Rattle.topo_rules.specs.declared.cell.Cell.{Cell}
 use Rattle.topo_rules.specs.declared.cell.Cell.TheVariants.{UpdateSingle, Keep, Remove, UpdateUnknownWithStandalone, BecomeSharded, BecomeWithPrimary, BecomeNoPrimary, UpdateFromPrimary, UpdateWithoutPrimary, UpdateWithPrimaryFromMember, CheckIfHasPrimary, RemoveAndCheck}
 use Rattle.topo_rules.specs.declared.event.TopoEvent.{TopoEvent}
-use Rattle.topo_rules.specs.declared.event.TopoEvent.TheVariants.{Reply, Broken, Refused}
 use Rattle.topo_rules.specs.declared.kind.TopoKind.TheVariants as topo
 use Rattle.topo_rules.specs.declared.maxima.Maxima.{Maxima}
 use Rattle.topo_rules.specs.declared.topology.Topology.{Topology}
@@ -19,7 +18,7 @@ use Rattle.topo_rules.specs.Kinds.{is_known, is_primary}
 use Rattle.topo_rules.specs.Laws.{StandsBehind}
 use Rattle.topo_rules.specs.Maps.{ServerMap, known_or_new, joined, beside_primary, servers_of_primary}
 use Rattle.topo_rules.specs.Primaries.{judged}
-use Rattle.topo_rules.specs.Rules.{event_host, fresh, name_differs, me_differs, placed, taken_name, update_rs_without_primary, with_verdict, update_rs_from_primary, settled, after}
+use Rattle.topo_rules.specs.Rules.{fresh, name_differs, me_differs, placed, taken_name, update_rs_without_primary, with_verdict, update_rs_from_primary, settled, after}
 use Rattle.topo_rules.proofs.HostOrder.{host_total}
 use Rattle.topo_rules.proofs.HostTables.{some_same, same_from_test}
 use Rattle.topo_rules.proofs.LawLemmas.{at_tabulate, host-fresh}

@@ -1,11 +1,11 @@
 -- Hosts differ exactly where a map of them has as many.
-use Rattle.std.proofs.Common.{◌≡◌, ℕ, suc, ◌+◌, ◌≤◌, ◌↔◌, Bool, true, false, cond, ◌||◌, List, [], ◌∷◌, map, length, Some, None, is_some, refl, sym, ap, ◌∙◌, arith, true≢false}
+use Rattle.std.proofs.Common.{◌≡◌, suc, ◌+◌, ◌≤◌, Bool, true, false, cond, ◌||◌, List, [], ◌∷◌, length, Some, None, is_some, refl, sym, ap, ◌∙◌, arith, true≢false}
 use Rattle.std.specs.FinMap as map
 use Rattle.std.specs.List.{AllByRecursion, IsDistinct}
 use Rattle.std.specs.Ordering.{eq_by_cmp}
 use Rattle.host_name.specs.Addresses.{Address, address_cmp, is_same_address}
 use Rattle.hello_reply.specs.declared.server_description.ServerDescription.{ServerDescription}
-use Rattle.topo_rules.specs.Maps.{ServerMap, tabulate}
+use Rattle.topo_rules.specs.Maps.{tabulate}
 use Rattle.topo_rules.proofs.HostOrder.{host_total, host_ties}
 use Rattle.topo_rules.proofs.Tabulate.{among, get-tabulate}
 

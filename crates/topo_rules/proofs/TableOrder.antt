@@ -1,7 +1,6 @@
 -- Where a search by halves ends in a table that is in order, and what a sort and a write make of its map.
 use Rattle.std.proofs.Common.{◌≡◌, ℕ, zero, suc, ◌+◌, ◌<◌, ◌≤◌, Bool, true, false, cond, not, ◌&&◌, List, [], ◌∷◌, ◌++◌, map, Option, None, Some, refl, sym, ap, subst, ◌∙◌, arith, inl, inr, T, is_some, slice_get, option_map, length, get_or, set, true≢false}
 use Rattle.std.proofs.lemmas.Bool.{cases_lt}
-use Rattle.std.proofs.lemmas.Cmp.{eq_by_cmp_equiv}
 use Rattle.std.proofs.lemmas.List.Kept.{IsStrictlySortedBy-dedup}
 use Rattle.std.proofs.lemmas.List.{length-map}
 use Rattle.std.proofs.lemmas.Option.{get_or_from_slice_get, slice_get-map}
@@ -12,7 +11,7 @@ use Rattle.std.specs.Cmp.{IsTotalOrder, on_total}
 use Rattle.std.specs.FinMap as map
 use Rattle.std.specs.FinMap.Entries.{below_all, where_key, find-where_key}
 use Rattle.std.specs.List.{AllByRecursion, filter, dedup, dedup_from}
-use Rattle.std.specs.List.Sorted.{IsSorted, IsStrictlySortedBy, ties, IsStableBy, IsPartitionPoint}
+use Rattle.std.specs.List.Sorted.{IsSorted, IsStrictlySortedBy, ties, IsPartitionPoint}
 use Rattle.std.specs.Map.{keys_of}
 use Rattle.std.specs.Ordering.{eq_by_cmp, is_lt, is_eq, ordering_reverse}
 use Rattle.std.specs.declared.cmp.Ordering.{Ordering}
@@ -22,7 +21,7 @@ use Rattle.hello_reply.specs.declared.server_description.ServerDescription.{Serv
 use Rattle.topo_rules.specs.Maps.{ServerMap, StandAtHosts}
 use Rattle.topo_rules.specs.Seen.{by_host, described, seen}
 use Rattle.topo_rules.proofs.HostOrder.{host_total, host_same, host_ties}
-use Rattle.topo_rules.proofs.HostTables.{entries-by_host, equal_is, some_same, same_from_test}
+use Rattle.topo_rules.proofs.HostTables.{entries-by_host, equal_is, same_from_test}
 use Rattle.topo_rules.proofs.Lists.{none_past}
 use Rattle.topo_rules.proofs.Tabulate.{get_at}
 use Rattle.topo_rules.proofs.Places.{strict_keys, strictly}

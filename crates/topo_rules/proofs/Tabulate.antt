@@ -1,5 +1,5 @@
 -- Maps made by what is said of each host of a list.
-use Rattle.std.proofs.Common.{◌≡◌, ℕ, zero, suc, ◌+◌, ◌<◌, Bool, true, false, cond, ◌||◌, if◌then◌else◌, List, [], ◌∷◌, ◌++◌, map, Option, None, Some, is_some, refl, sym, ap, subst, ◌∙◌, length, slice_get, take, true≢false, get_or, option_map, T}
+use Rattle.std.proofs.Common.{◌≡◌, ℕ, suc, ◌+◌, ◌<◌, Bool, true, false, cond, ◌||◌, if◌then◌else◌, List, [], ◌∷◌, ◌++◌, map, Option, None, Some, refl, sym, ap, ◌∙◌, length, slice_get, take, get_or}
 use Rattle.std.proofs.lemmas.Cmp.{eq_by_cmp_equiv}
 use Rattle.std.proofs.lemmas.List.{take_more}
 use Rattle.std.proofs.lemmas.Map.Entries.{lookup_from_place}
@@ -7,16 +7,15 @@ use Rattle.std.specs.Ordering.{eq_by_cmp}
 use Rattle.std.specs.List.{list_any}
 use Rattle.std.specs.Option.{unwrap_or}
 use Rattle.std.specs.FinMap as map
-use Rattle.std.specs.Arc.{arc_value}
 use Rattle.std.specs.declared.sync.Arc.{Arc}
 use Rattle.std.specs.Map.{lookup}
 use Rattle.host_name.specs.Addresses.{Address, address_cmp, is_same_address, is_same_address-true}
 use Rattle.hello_reply.specs.declared.server_description.ServerDescription.{ServerDescription}
 use Rattle.hello_reply.specs.Descriptions.{unknown as default_unknown_of}
 use Rattle.topo_rules.specs.Kinds.{is_primary}
-use Rattle.topo_rules.specs.Maps.{ServerMap, StandAtHosts, tabulate, known_or_new, joined, beside_primary}
+use Rattle.topo_rules.specs.Maps.{ServerMap, StandAtHosts, tabulate, known_or_new, beside_primary}
 use Rattle.topo_rules.specs.Seen.{by_host, described, seen}
-use Rattle.topo_rules.proofs.HostOrder.{host_total, host_same}
+use Rattle.topo_rules.proofs.HostOrder.{host_total}
 use Rattle.topo_rules.proofs.HostTables.{same_from_test}
 use Rattle.topo_rules.proofs.Places.{distinct_keys}
 

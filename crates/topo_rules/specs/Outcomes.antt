@@ -3,7 +3,6 @@ use Rattle.std.specs.Prelude.{◌≡◌, if◌then◌else◌, List, ℕ, Option,
 use Rattle.std.specs.Arc.{arc_value}
 use Rattle.std.specs.FinMap as map
 use Rattle.host_name.specs.Addresses.{Address}
-use Rattle.hello_reply.specs.declared.server_description.ServerDescription.{ServerDescription}
 use Rattle.topo_rules.specs.declared.kind.TopoKind.{TopoKind}
 use Rattle.topo_rules.specs.declared.kind.TopoKind.TheVariants as topo
 use Rattle.topo_rules.specs.declared.outcome.Edit.{Edit}

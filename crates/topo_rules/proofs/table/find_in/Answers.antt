@@ -1,4 +1,4 @@
-use Rattle.std.proofs.Common.{sym, ap, ◌∙◌, option_map}
+use Rattle.std.proofs.Common.{ap, ◌∙◌, option_map}
 use Rattle.std.specs.Arc.{arc_value}
 use Rattle.topo_rules.proofs.TableOrder.{get-at-place}
 use Rattle.topo_rules.proofs.table.find_in.Goals as goal

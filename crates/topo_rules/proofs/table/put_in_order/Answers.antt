@@ -1,11 +1,8 @@
-use Rattle.std.proofs.Common.{rules, ap, ◌∙◌, T, subst}
+use Rattle.std.proofs.Common.{rules}
 use Rattle.std.proofs.lemmas.Fn.{dedup_same}
 use Rattle.std.proofs.lemmas.List.Sorted.{answers_always, ranks_by}
-use Rattle.std.specs.Arc.{arc_value}
-use Rattle.std.specs.FinMap as map
 use Rattle.std.specs.Ordering.{is_lt}
-use Rattle.host_name.specs.Addresses.{address_cmp, is_same_address}
-use Rattle.topo_rules.specs.Seen.{by_host, described, seen}
+use Rattle.host_name.specs.Addresses.{is_same_address}
 use Rattle.topo_rules.proofs.HostOrder.{host_total}
 use Rattle.topo_rules.proofs.TableOrder.{host_at, host_order, dedup-in_order, seen-sorted}
 use Rattle.topo_rules.proofs.table.put_in_order.Goals as goal

@@ -1,4 +1,4 @@
-use Rattle.std.proofs.Common.{sym, ◌∙◌}
+use Rattle.std.proofs.Common.{sym}
 use Rattle.topo_rules.proofs.MoveLemmas.{plain-insert}
 use Rattle.topo_rules.proofs.servers.Servers.keeps.Goals as goal
 

@@ -1,4 +1,4 @@
-use Rattle.std.proofs.Common.{sym, ap, subst, ◌∙◌}
+use Rattle.std.proofs.Common.{sym, ap, ◌∙◌}
 use Rattle.std.specs.FinMap as map
 use Rattle.topo_rules.proofs.HostTables.{len-seen, in_order}
 use Rattle.topo_rules.proofs.servers.Servers.len.Goals as goal

@@ -1,8 +1,5 @@
-use Rattle.std.proofs.Common.{T, ap, sym, subst, ◌∙◌}
-use Rattle.std.specs.FinMap as map
-use Rattle.host_name.specs.Addresses.{address_cmp}
+use Rattle.std.proofs.Common.{subst}
 use Rattle.topo_rules.specs.Maps.{StandAtHosts}
-use Rattle.topo_rules.specs.Seen.{by_host, described, seen}
 use Rattle.topo_rules.proofs.HostTables.{seen-at_hosts}
 use Rattle.topo_rules.proofs.servers.Servers.rows.Goals as goal
 

@@ -16,7 +16,7 @@ returns-in-Put c =
     let same_path = ap (map.insert m h) c.deref.ensures ∙ path in
     let stood = standing (map.get m h) c.requires.stands in
     record {
-      added = c.new.ensures ∙ sym (none_added m h d stood.0 stood.1) ∙ ap (λ n. hosts_beyond n m) path;
-      removed = c.new-in-Put.ensures ∙ sym (none_removed m h d stood.0 stood.1) ∙ ap (λ n. hosts_beyond m n) path;
+      added = c.new.ensures.empty ∙ sym (none_added m h d stood.0 stood.1) ∙ ap (λ n. hosts_beyond n m) path;
+      removed = c.new-in-Put.ensures.empty ∙ sym (none_removed m h d stood.0 stood.1) ∙ ap (λ n. hosts_beyond m n) path;
       same = (λ t. c.keeps.ensures.0 t ∙ ap plain same_path, λ e. c.keeps.ensures.1 (e ∙ ap plain (sym same_path)));
     }

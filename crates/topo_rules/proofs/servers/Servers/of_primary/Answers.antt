@@ -17,4 +17,4 @@ returns c =
     c.in_ok-servers.ensures
     ∙ seen-tabulate (beside_primary c.args.self.now (arc_value c.args.primary.now)) (beside-host c.args.self.now (arc_value c.args.primary.now) c.len.ensures.hosts) c.loop-host.table.items c.as_slice-host-items.result.now
     (c.loop-host.invariant ∙ ap (map (beside_primary c.args.self.now (arc_value c.args.primary.now))) (take_all c.loop-host.host-index c.as_slice-host-items.result.now (omega arith)))
-    ∙ ap (λ xs. tabulate xs (beside_primary c.args.self.now (arc_value c.args.primary.now))) (c.as_slice-host-items.ensures ∙ ap (λ (d : ServerDescription). d.listed) c.deref.ensures)
+    ∙ ap (λ xs. tabulate xs (beside_primary c.args.self.now (arc_value c.args.primary.now))) (c.as_slice-host-items.ensures.value ∙ ap (λ (d : ServerDescription). d.listed) c.deref.ensures)

@@ -1,6 +1,7 @@
 //! Values of a fixed size.
 
 ghost use Rattle.std.specs.Prelude.{◌≡◌, ◌≤◌, length, IfOk};
+ghost use Rattle.bson_doc.specs.wire.Limits.{most_bytes};
 ghost use Rattle.bson_doc.specs.wire.Reading.{Gives, plain_at};
 
 use crate::BsonFault;
@@ -36,7 +37,7 @@ pub fn oid_of(span: Span, bytes: &[u8]) -> Result<(Value, &[u8]), BsonFault>
 #[tactic(auto, unfolding(bson_doc::specs::wire::Reading::plain_at, bson_doc::specs::wire::Reading::bool_at))]
 pub fn bool_of(span: Span, bytes: &[u8]) -> Result<(Value, &[u8]), BsonFault>
     requires within { length bytes.now ≤ span.end }
-    requires small { span.end ≤ 48000000 }
+    requires small { span.end ≤ most_bytes }
     ensures gives { Gives (λ x. (x.0, x.1.now)) result
         (plain_at span.start span.end PlainKind.Bool bytes.now) }
     ensures rest { IfOk result (λ x. length x.1.now ≤ length bytes.now) }

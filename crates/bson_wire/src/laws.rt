@@ -2,9 +2,12 @@
 
 ghost use Rattle.std.specs.Prelude.{◌≡◌, ◌≢◌, ◌≤◌, ◌<◌, ◌↔◌, All, length, ℕ, List, [], ◌++◌, take, Some, None, Ok};
 ghost use Rattle.bson_doc.specs.declared.value.Document.{Document};
+ghost use Rattle.bson_doc.specs.wire.Limits.{most_bytes};
 ghost use Rattle.bson_doc.specs.wire.Spelling.{Spells};
 ghost use Rattle.bson_doc.specs.wire.Spelled.{spelled};
+ghost use Rattle.bson_doc.specs.declared.bson_fault.BsonFault.{BsonFault};
 ghost use Rattle.bson_doc.specs.wire.Reading.{read, flaw};
+ghost use Rattle.bson_doc.specs.wire.Meaning.{Means};
 
 use crate::BsonFault;
 
@@ -34,7 +37,7 @@ pub fn read_again()
 /// What has a spelling has the one of `encode`, where that is not too long.
 pub fn spelled_spells()
     ensures { (bytes : List ℕ) (document : Document)
-        → All (λ b. b < 256) bytes → Spells bytes document → length (spelled document) ≤ 48000000
+        → All (λ b. b < 256) bytes → Spells bytes document → length (spelled document) ≤ most_bytes
         → Spells (spelled document) document }
 {}
 
@@ -43,4 +46,11 @@ pub fn spelled_spells()
 pub fn no_look_ahead()
     ensures { (bytes more : List ℕ)
         → flaw bytes ≢ Some BsonFault.Short → flaw (bytes ++ more) ≡ flaw bytes }
+{}
+
+/// What a fault says: its place lies inside the bytes; the byte at `Kind`'s place has no kind and is no 00; the byte at
+/// `Bool`'s place is neither 0 nor 1; `Short` comes where fewer bytes are there than four, or than the total counts; and
+/// no reading meets want of memory.
+pub fn meaning()
+    ensures { (bytes : List ℕ) (e : BsonFault) → flaw bytes ≡ Some e → Means bytes e }
 {}

@@ -2,10 +2,9 @@
 //!
 //! [`encode`] gives the one spelling of a document in which the names of an array are "0", "1" and so on. [`decode`]
 //! reads the document at the front of some bytes, or names the first fault from the left with its place. What bytes
-//! spell a document is said by the relation `Spells` of `specs/Spelling.antt`, apart from both directions; `spelled` of
-//! `specs/Spelled.antt` is the one spelling, and `flaw` of `specs/Reading.antt` the first fault. The laws that tie them
-//! are the contracts of [`one_document`], [`no_prefix`], [`flawless`], [`read_again`], [`spelled_spells`]
-//! and [`no_look_ahead`].
+//! spell a document is said by the relation `Spells` of `specs/wire/Spelling.antt` in `bson_doc`, apart from both
+//! directions; `spelled` of `Spelled.antt` beside it is the one spelling, and `flaw` of `Reading.antt` the first fault.
+//! This crate's `specs` name them on. The laws that tie them are the contracts in [`laws`].
 //!
 //! All kinds of the standard are read and written, those too that it calls deprecated: the type bytes 01 to 13, 7f and
 //! ff. A double is kept as its eight bytes and a decimal number as its sixteen; a binary of any subtype is kept as it
@@ -22,7 +21,7 @@ mod decoding;
 mod encoding;
 mod fault;
 mod fixed;
-mod laws;
+pub mod laws;
 mod limits;
 mod parts;
 mod plain;
@@ -40,5 +39,4 @@ pub use decoding::decode;
 pub use encoding::encode;
 pub use bson_doc::BsonFault;
 pub use fault::EncodeFault;
-pub use laws::{flawless, no_look_ahead, no_prefix, one_document, read_again, spelled_spells};
 pub use sizes::size;

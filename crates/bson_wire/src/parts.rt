@@ -2,10 +2,11 @@
 
 ghost use Rattle.std.specs.Prelude.{◌≡◌, ◌≤◌, ◌+◌, ◌-◌, ◌==◌, length, position, IfOk, IfErr};
 ghost use Rattle.bson_doc.specs.Names.{HasNoZero};
+ghost use Rattle.bson_doc.specs.wire.Limits.{most_bytes};
 ghost use Rattle.bson_doc.specs.wire.Reading.{Gives, bytes_at, byte_at, behind_zero, text_at, name_at, length_at, string_at};
 
 use crate::BsonFault;
-use bson_doc::{Name, Text};
+use bson_doc::{Name, Text, first_zero};
 use byteorder::{ByteOrder, LittleEndian};
 use std::alloc::Global;
 use std::str;
@@ -13,7 +14,7 @@ use std::str;
 /// The place where the bytes begin, which end at the place `end`.
 pub fn place(end: usize, bytes: &[u8]) -> u32
     requires within { length bytes.now ≤ end }
-    requires small { end ≤ 48000000 }
+    requires small { end ≤ most_bytes }
     ensures { result ≡ end - length bytes.now }
 {
     (end - bytes.len()) as u32
@@ -66,7 +67,7 @@ pub fn zero_of(at: u32, bytes: &[u8]) -> Result<&[u8], BsonFault>
 /// All of the bytes as a text.
 #[tactic(auto, using(bson_doc::proofs::wire::Texts::texts))]
 pub fn text_of(at: u32, bytes: &[u8]) -> Result<&str, BsonFault>
-    requires { at + length bytes.now ≤ 48000000 }
+    requires { at + length bytes.now ≤ most_bytes }
     ensures { Gives (λ x. x.now) result (text_at at bytes.now) }
 {
     match str::from_utf8(bytes) {
@@ -77,18 +78,11 @@ pub fn text_of(at: u32, bytes: &[u8]) -> Result<&str, BsonFault>
     }
 }
 
-/// Where the first 00 stands.
-fn first_zero(bytes: &[u8]) -> Option<usize>
-    ensures { result ≡ position (λ b. b == 0) bytes.now }
-{
-    bytes.iter().position(|b| *b == 0)
-}
-
 /// The name of an element.
 #[tactic(auto, unfolding(bson_doc::specs::wire::Reading::name_at))]
 pub fn name_of(start: u32, end: usize, bytes: &[u8]) -> Result<(&str, &[u8]), BsonFault>
     requires within { length bytes.now ≤ end }
-    requires small { end ≤ 48000000 }
+    requires small { end ≤ most_bytes }
     ensures gives { Gives (λ x. (x.0.now, x.1.now)) result (name_at start end bytes.now) }
     ensures no_zero { IfOk result (λ x. HasNoZero x.0.now) }
     ensures rest { IfOk result (λ x. length x.1.now ≤ length bytes.now) }
@@ -106,8 +100,8 @@ pub fn taken_name(alloc: Global, text: &str) -> Result<Name, BsonFault>
     ensures ok { IfOk result (λ name. name ≡ text.now) }
     ensures err { IfErr result (λ e. e ≡ BsonFault.Memory) }
 {
-    let text = Text::take(alloc, text)?;
-    Ok(Name::new(text).unwrap())
+    let name = Name::take(alloc, text)?;
+    Ok(name)
 }
 
 /// A length field: its number, and what stands behind it.
@@ -119,7 +113,7 @@ pub fn length_of(
     bytes: &[u8],
 ) -> Result<(usize, &[u8]), BsonFault>
     requires within { length bytes.now ≤ end }
-    requires small { end ≤ 48000000 }
+    requires small { end ≤ most_bytes }
     requires own { own ≤ 4 }
     ensures gives { Gives (λ x. (x.0, x.1.now)) result (length_at least own end bytes.now) }
     ensures range { IfOk result (λ x. (least ≤ x.0) × (x.0 ≤ length x.1.now + own)) }
@@ -138,7 +132,7 @@ pub fn length_of(
 #[tactic(auto, unfolding(bson_doc::specs::wire::Reading::string_at))]
 pub fn string_of(alloc: Global, end: usize, bytes: &[u8]) -> Result<(Text, &[u8]), BsonFault>
     requires within { length bytes.now ≤ end }
-    requires small { end ≤ 48000000 }
+    requires small { end ≤ most_bytes }
     ensures gives { Gives (λ x. (x.0, x.1.now)) result (string_at end bytes.now) }
     ensures rest { IfOk result (λ x. length x.1.now ≤ length bytes.now) }
 {

@@ -1,6 +1,7 @@
 //! Values that hold no document, by their kind.
 
 ghost use Rattle.std.specs.Prelude.{◌≤◌, length, IfOk};
+ghost use Rattle.bson_doc.specs.wire.Limits.{most_bytes};
 ghost use Rattle.bson_doc.specs.wire.Reading.{Gives, plain_at};
 
 use crate::BsonFault;
@@ -20,7 +21,7 @@ pub fn plain_of(
     bytes: &[u8],
 ) -> Result<(Value, &[u8]), BsonFault>
     requires within { length bytes.now ≤ span.end }
-    requires small { span.end ≤ 48000000 }
+    requires small { span.end ≤ most_bytes }
     ensures gives { Gives (λ x. (x.0, x.1.now)) result (plain_at span.start span.end kind bytes.now) }
     ensures rest { IfOk result (λ x. length x.1.now ≤ length bytes.now) }
 {

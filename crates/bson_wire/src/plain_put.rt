@@ -3,6 +3,7 @@
 ghost use Rattle.std.specs.Prelude.{◌≡◌, ◌≤◌, ◌<◌, ◌^◌, ◌++◌, length, OnOk, IfErr, FitsSigned};
 ghost use Rattle.std.specs.Int.{w32, w64, cast_unsigned};
 ghost use Rattle.byteorder.specs.Endian.{little_bytes};
+ghost use Rattle.bson_doc.specs.wire.Limits.{most_bytes};
 ghost use Rattle.bson_doc.specs.wire.Spelling.{IsName};
 ghost use Rattle.bson_doc.specs.wire.Spelled.{number32, int64, string, binary, regex, payload};
 ghost use Rattle.bson_wire.specs.Written.{Stops, PayloadSpells, IsPlain};
@@ -137,7 +138,7 @@ fn put_stamp(out: &mut Vec<u8>, n: &u64) -> Result<(), EncodeFault>
 /// How many bytes, the subtype, and the bytes.
 fn put_binary(out: &mut Vec<u8>, subtype: u8, bytes: &[u8]) -> Result<(), EncodeFault>
     ensures ok { OnOk result (out.new.items ≡ out.old.items ++ binary subtype bytes.now) }
-    ensures size { OnOk result (length (binary subtype bytes.now) ≤ 48000000) }
+    ensures size { OnOk result (length (binary subtype bytes.now) ≤ most_bytes) }
     ensures long { IfErr result (Stops (length (binary subtype bytes.now))) }
 {
     if bytes.len() > MOST_BYTES - 5 {
@@ -164,7 +165,7 @@ fn put_regex(out: &mut Vec<u8>, pattern: &Name, options: &Name) -> Result<(), En
 /// A text and an ObjectId.
 fn put_pointer(out: &mut Vec<u8>, space: &str, oid: &Oid) -> Result<(), EncodeFault>
     ensures ok { OnOk result (out.new.items ≡ out.old.items ++ (string space.now ++ oid.now.0)) }
-    ensures size { OnOk result (length (string space.now) ≤ 48000000) }
+    ensures size { OnOk result (length (string space.now) ≤ most_bytes) }
     ensures long { IfErr result (Stops (length (string space.now ++ oid.now.0))) }
     ensures twelve { OnOk result (length oid.now.0 ≡ 12) }
 {

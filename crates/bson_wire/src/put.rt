@@ -1,6 +1,7 @@
 //! The parts that values are written by: bytes, numbers, texts, totals, and the end of a document.
 
 ghost use Rattle.std.specs.Prelude.{◌≡◌, ◌≤◌, ◌+◌, ◌∷◌, [], ◌++◌, length, take, drop, vec_len, OnOk, IfErr};
+ghost use Rattle.bson_doc.specs.wire.Limits.{most_bytes};
 ghost use Rattle.bson_doc.specs.wire.Spelled.{number32, string, document, counted};
 ghost use Rattle.bson_wire.specs.Written.{Stops};
 
@@ -49,7 +50,7 @@ fn set_number(out: &mut Vec<u8>, at: usize, n: u32)
 /// A text with its length in front and 00 behind.
 pub fn put_string(out: &mut Vec<u8>, text: &str) -> Result<(), EncodeFault>
     ensures ok { OnOk result (out.new.items ≡ out.old.items ++ string text.now) }
-    ensures size { OnOk result (length (string text.now) ≤ 48000000) }
+    ensures size { OnOk result (length (string text.now) ≤ most_bytes) }
     ensures long { IfErr result (Stops (length (string text.now))) }
 {
     if text.len() > MOST_BYTES - 5 {
@@ -65,7 +66,7 @@ pub fn set_total(out: &mut Vec<u8>, start: usize) -> Result<(), EncodeFault>
     requires { start + 4 ≤ vec_len out.old }
     ensures ok { OnOk result
         (out.new.items ≡ take start out.old.items ++ counted (drop (start + 4) out.old.items)) }
-    ensures size { OnOk result (length (counted (drop (start + 4) out.old.items)) ≤ 48000000) }
+    ensures size { OnOk result (length (counted (drop (start + 4) out.old.items)) ≤ most_bytes) }
     ensures long { IfErr result (Stops (length (counted (drop (start + 4) out.old.items)))) }
 {
     let total = out.len() - start;
@@ -81,7 +82,7 @@ pub fn end_document(out: &mut Vec<u8>, start: usize) -> Result<(), EncodeFault>
     requires { start + 4 ≤ vec_len out.old }
     ensures ok { OnOk result
         (out.new.items ≡ take start out.old.items ++ document (drop (start + 4) out.old.items)) }
-    ensures size { OnOk result (length (document (drop (start + 4) out.old.items)) ≤ 48000000) }
+    ensures size { OnOk result (length (document (drop (start + 4) out.old.items)) ≤ most_bytes) }
     ensures long { IfErr result (Stops (length (document (drop (start + 4) out.old.items)))) }
 {
     put_byte(out, 0)?;

@@ -1,6 +1,7 @@
 //! Documents, arrays and code with a scope, and the values, elements and bodies inside them. Each reader goes from the left to the right.
 
 ghost use Rattle.std.specs.Prelude.{ℕ, ◌≡◌, ◌≤◌, ◌+◌, ◌-◌, ◌<◌, length, take, drop, IfOk};
+ghost use Rattle.bson_doc.specs.wire.Limits.{most_bytes};
 ghost use Rattle.bson_doc.specs.wire.Reading.{Gives, unnamed_element, unnamed_elements, unnamed_document, kind_at, value_at, scope_at, element_at, elements_at, body_at, document_at};
 
 use crate::BsonFault;
@@ -43,7 +44,7 @@ fn document_of(
     bytes: &[u8],
 ) -> Result<(Document, &[u8]), BsonFault>
     requires within { length bytes.now ≤ end }
-    requires small { end ≤ 48000000 }
+    requires small { end ≤ most_bytes }
     ensures gives { Gives (λ x. (x.0, x.1.now)) result (document_at levels end bytes.now) }
     ensures rest { IfOk result (λ x. length x.1.now ≤ length bytes.now) }
 {
@@ -67,7 +68,7 @@ pub fn body_of(
 ) -> Result<(Document, &[u8]), BsonFault>
     requires least { 5 ≤ total }
     requires within { total ≤ length bytes.now + 4 }
-    requires small { start + total ≤ 48000000 }
+    requires small { start + total ≤ most_bytes }
     ensures gives { Gives (λ x. (x.0, x.1.now)) result
         (body_at (document_at levels) start total bytes.now) }
     ensures rest { IfOk result (λ x. length x.1.now ≤ length bytes.now) }
@@ -87,7 +88,7 @@ fn elements_of(
     bytes: &[u8],
 ) -> Result<Rows<(Name, Value)>, BsonFault>
     requires within { length bytes.now ≤ span.end }
-    requires small { span.end ≤ 48000000 }
+    requires small { span.end ≤ most_bytes }
     ensures { (fuel : ℕ) → length bytes.now ≤ fuel
         → Gives (λ x. x) result (elements_at (document_at levels) fuel span.start span.end bytes.now) }
 {
@@ -112,7 +113,7 @@ fn element_of(
     bytes: &[u8],
 ) -> Result<((Name, Value), &[u8]), BsonFault>
     requires within { length bytes.now < span.end }
-    requires small { span.end ≤ 48000000 }
+    requires small { span.end ≤ most_bytes }
     ensures gives { Gives (λ x. (x.0, x.1.now)) result
         (element_at (document_at levels) span.start span.end byte bytes.now) }
     ensures rest { IfOk result (λ x. length x.1.now ≤ length bytes.now) }
@@ -135,7 +136,7 @@ fn value_of(
     bytes: &[u8],
 ) -> Result<(Value, &[u8]), BsonFault>
     requires within { length bytes.now ≤ span.end }
-    requires small { span.end ≤ 48000000 }
+    requires small { span.end ≤ most_bytes }
     ensures gives { Gives (λ x. (x.0, x.1.now)) result
         (value_at (document_at levels) span.start span.end kind bytes.now) }
     ensures rest { IfOk result (λ x. length x.1.now ≤ length bytes.now) }
@@ -167,7 +168,7 @@ fn scope_of(
     bytes: &[u8],
 ) -> Result<((Text, Document), &[u8]), BsonFault>
     requires within { length bytes.now ≤ end }
-    requires small { end ≤ 48000000 }
+    requires small { end ≤ most_bytes }
     ensures gives { Gives (λ x. (x.0, x.1.now)) result (scope_at (document_at levels) end bytes.now) }
     ensures rest { IfOk result (λ x. length x.1.now ≤ length bytes.now) }
 {
@@ -193,7 +194,7 @@ fn array_of(
     bytes: &[u8],
 ) -> Result<(Rows<Value>, &[u8]), BsonFault>
     requires within { length bytes.now ≤ end }
-    requires small { end ≤ 48000000 }
+    requires small { end ≤ most_bytes }
     ensures gives { Gives (λ x. (x.0, x.1.now)) result
         (unnamed_document (document_at levels end bytes.now)) }
     ensures rest { IfOk result (λ x. length x.1.now ≤ length bytes.now) }
@@ -217,7 +218,7 @@ fn array_body_of(
 ) -> Result<(Rows<Value>, &[u8]), BsonFault>
     requires least { 5 ≤ total }
     requires within { total ≤ length bytes.now + 4 }
-    requires small { start + total ≤ 48000000 }
+    requires small { start + total ≤ most_bytes }
     ensures gives { Gives (λ x. (x.0, x.1.now)) result
         (unnamed_document (body_at (document_at levels) start total bytes.now)) }
     ensures rest { IfOk result (λ x. length x.1.now ≤ length bytes.now) }
@@ -232,7 +233,7 @@ fn array_body_of(
 #[cycle(reading)]
 fn items_of(alloc: Global, levels: u32, span: Span, bytes: &[u8]) -> Result<Rows<Value>, BsonFault>
     requires within { length bytes.now ≤ span.end }
-    requires small { span.end ≤ 48000000 }
+    requires small { span.end ≤ most_bytes }
     ensures { (fuel : ℕ) → length bytes.now ≤ fuel
         → Gives (λ x. x) result
         (unnamed_elements (elements_at (document_at levels) fuel span.start span.end bytes.now)) }
@@ -258,7 +259,7 @@ fn item_of(
     bytes: &[u8],
 ) -> Result<(Value, &[u8]), BsonFault>
     requires within { length bytes.now < span.end }
-    requires small { span.end ≤ 48000000 }
+    requires small { span.end ≤ most_bytes }
     ensures gives { Gives (λ x. (x.0, x.1.now)) result
         (unnamed_element (element_at (document_at levels) span.start span.end byte bytes.now)) }
     ensures rest { IfOk result (λ x. length x.1.now ≤ length bytes.now) }

@@ -18,7 +18,7 @@ const AROUND_TEXT: u64 = 5;
 /// How many bytes the spelling of the document has (bsonspec 1.1, document). Past u64's greatest number it stays there.
 #[cycle(size)]
 pub fn size(document: &Document) -> u64
-    ensures { result ≡ min (length (spelled document.now)) (2 ^ 64 - 1) }
+    ensures size { result ≡ min (length (spelled document.now)) (2 ^ 64 - 1) }
 {
     size_of_elements(document.elements.as_slice()).saturating_add(AROUND_ELEMENTS)
 }

@@ -1,4 +1,5 @@
 ghost use Rattle.std.specs.Prelude.{◌≡◌, ◌≤◌, ◌+◌, ◌-◌};
+ghost use Rattle.bson_doc.specs.wire.Limits.{most_bytes};
 
 /// Where the elements of a document stand.
 #[derive(Clone, Copy)]
@@ -13,7 +14,7 @@ impl Span {
     /// The elements of a document of that total, whose length stands at `start`. Its last byte is kept for its 00.
     pub fn of(start: u32, total: usize) -> Span
         requires least { 5 ≤ total }
-        requires small { start + total ≤ 48000000 }
+        requires small { start + total ≤ most_bytes }
         ensures start { result.start ≡ start }
         ensures end { result.end ≡ start + total - 1 }
     {

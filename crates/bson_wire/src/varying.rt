@@ -1,6 +1,7 @@
 //! Values of any size that hold no document.
 
 ghost use Rattle.std.specs.Prelude.{◌≡◌, ◌≤◌, length, IfOk};
+ghost use Rattle.bson_doc.specs.wire.Limits.{most_bytes};
 ghost use Rattle.bson_doc.specs.wire.Reading.{Gives, plain_at};
 
 use crate::BsonFault;
@@ -14,7 +15,7 @@ use std::alloc::Global;
 #[tactic(auto, unfolding(bson_doc::specs::wire::Reading::plain_at))]
 pub fn str_of(alloc: Global, span: Span, bytes: &[u8]) -> Result<(Value, &[u8]), BsonFault>
     requires within { length bytes.now ≤ span.end }
-    requires small { span.end ≤ 48000000 }
+    requires small { span.end ≤ most_bytes }
     ensures gives { Gives (λ x. (x.0, x.1.now)) result
         (plain_at span.start span.end PlainKind.Str bytes.now) }
     ensures rest { IfOk result (λ x. length x.1.now ≤ length bytes.now) }
@@ -27,7 +28,7 @@ pub fn str_of(alloc: Global, span: Span, bytes: &[u8]) -> Result<(Value, &[u8]),
 #[tactic(auto, unfolding(bson_doc::specs::wire::Reading::plain_at))]
 pub fn code_of(alloc: Global, span: Span, bytes: &[u8]) -> Result<(Value, &[u8]), BsonFault>
     requires within { length bytes.now ≤ span.end }
-    requires small { span.end ≤ 48000000 }
+    requires small { span.end ≤ most_bytes }
     ensures gives { Gives (λ x. (x.0, x.1.now)) result
         (plain_at span.start span.end PlainKind.Code bytes.now) }
     ensures rest { IfOk result (λ x. length x.1.now ≤ length bytes.now) }
@@ -40,7 +41,7 @@ pub fn code_of(alloc: Global, span: Span, bytes: &[u8]) -> Result<(Value, &[u8])
 #[tactic(auto, unfolding(bson_doc::specs::wire::Reading::plain_at))]
 pub fn symbol_of(alloc: Global, span: Span, bytes: &[u8]) -> Result<(Value, &[u8]), BsonFault>
     requires within { length bytes.now ≤ span.end }
-    requires small { span.end ≤ 48000000 }
+    requires small { span.end ≤ most_bytes }
     ensures gives { Gives (λ x. (x.0, x.1.now)) result
         (plain_at span.start span.end PlainKind.Symbol bytes.now) }
     ensures rest { IfOk result (λ x. length x.1.now ≤ length bytes.now) }
@@ -53,7 +54,7 @@ pub fn symbol_of(alloc: Global, span: Span, bytes: &[u8]) -> Result<(Value, &[u8
 #[tactic(auto, unfolding(bson_doc::specs::wire::Reading::plain_at, bson_doc::specs::wire::Reading::binary_at))]
 pub fn binary_of(alloc: Global, span: Span, bytes: &[u8]) -> Result<(Value, &[u8]), BsonFault>
     requires within { length bytes.now ≤ span.end }
-    requires small { span.end ≤ 48000000 }
+    requires small { span.end ≤ most_bytes }
     ensures gives { Gives (λ x. (x.0, x.1.now)) result
         (plain_at span.start span.end PlainKind.Binary bytes.now) }
     ensures rest { IfOk result (λ x. length x.1.now ≤ length bytes.now) }
@@ -70,7 +71,7 @@ pub fn binary_of(alloc: Global, span: Span, bytes: &[u8]) -> Result<(Value, &[u8
 #[tactic(auto, unfolding(bson_doc::specs::wire::Reading::plain_at, bson_doc::specs::wire::Reading::regex_at))]
 pub fn regex_of(alloc: Global, span: Span, bytes: &[u8]) -> Result<(Value, &[u8]), BsonFault>
     requires within { length bytes.now ≤ span.end }
-    requires small { span.end ≤ 48000000 }
+    requires small { span.end ≤ most_bytes }
     ensures gives { Gives (λ x. (x.0, x.1.now)) result
         (plain_at span.start span.end PlainKind.Regex bytes.now) }
     ensures rest { IfOk result (λ x. length x.1.now ≤ length bytes.now) }
@@ -86,7 +87,7 @@ pub fn regex_of(alloc: Global, span: Span, bytes: &[u8]) -> Result<(Value, &[u8]
 #[tactic(auto, unfolding(bson_doc::specs::wire::Reading::plain_at, bson_doc::specs::wire::Reading::pointer_at))]
 pub fn pointer_of(alloc: Global, span: Span, bytes: &[u8]) -> Result<(Value, &[u8]), BsonFault>
     requires within { length bytes.now ≤ span.end }
-    requires small { span.end ≤ 48000000 }
+    requires small { span.end ≤ most_bytes }
     ensures gives { Gives (λ x. (x.0, x.1.now)) result
         (plain_at span.start span.end PlainKind.DbPointer bytes.now) }
     ensures rest { IfOk result (λ x. length x.1.now ≤ length bytes.now) }

@@ -2,6 +2,7 @@
 
 ghost use Rattle.std.specs.Prelude.{◌≡◌, ◌≤◌, ◌+◌, ◌∷◌, [], ◌++◌, length, take, drop, vec_len, OnOk, IfErr};
 ghost use Rattle.std.specs.List.{AllByRecursion};
+ghost use Rattle.bson_doc.specs.wire.Limits.{most_bytes};
 ghost use Rattle.bson_doc.specs.wire.Spelled.{element, payload, scope, spelled, spelled_items, string};
 ghost use Rattle.bson_wire.specs.Written.{Stops, PayloadSpells, ElementSpells};
 
@@ -14,7 +15,7 @@ use bson_doc::{Document, Value};
 #[cycle(writing)]
 pub fn put_document(out: &mut Vec<u8>, document: &Document) -> Result<(), EncodeFault>
     ensures ok { OnOk result (out.new.items ≡ out.old.items ++ spelled document.now) }
-    ensures size { OnOk result (length (spelled document.now) ≤ 48000000) }
+    ensures size { OnOk result (length (spelled document.now) ≤ most_bytes) }
     ensures long { IfErr result (Stops (length (spelled document.now))) }
     ensures known { OnOk result (AllByRecursion ElementSpells document.now.elements) }
 {
@@ -30,7 +31,7 @@ pub fn put_document(out: &mut Vec<u8>, document: &Document) -> Result<(), Encode
 #[cycle(writing)]
 fn put_array(out: &mut Vec<u8>, items: &[Value]) -> Result<(), EncodeFault>
     ensures ok { OnOk result (out.new.items ≡ out.old.items ++ spelled_items items.now) }
-    ensures size { OnOk result (length (spelled_items items.now) ≤ 48000000) }
+    ensures size { OnOk result (length (spelled_items items.now) ≤ most_bytes) }
     ensures long { IfErr result (Stops (length (spelled_items items.now))) }
     ensures known { OnOk result (AllByRecursion PayloadSpells items.now) }
 {
@@ -47,7 +48,7 @@ fn put_array(out: &mut Vec<u8>, items: &[Value]) -> Result<(), EncodeFault>
 #[cycle(writing)]
 fn put_scope(out: &mut Vec<u8>, code: &str, document: &Document) -> Result<(), EncodeFault>
     ensures ok { OnOk result (out.new.items ≡ out.old.items ++ scope (string code.now) (spelled document.now)) }
-    ensures size { OnOk result (length (scope (string code.now) (spelled document.now)) ≤ 48000000) }
+    ensures size { OnOk result (length (scope (string code.now) (spelled document.now)) ≤ most_bytes) }
     ensures long { IfErr result (Stops (length (scope (string code.now) (spelled document.now)))) }
     ensures known { OnOk result (AllByRecursion ElementSpells document.now.elements) }
 {

@@ -9,7 +9,7 @@ use bson_doc::{Document, TopologyVersion, Value, is_one};
 
 /// All that a driver reads of a reply to a command (CRUD, Retryable Writes, SDAM: error handling). It takes no memory.
 pub fn classify(reply: &Document) -> Reading
-    ensures { result ≡ reading_of reply.now }
+    ensures reading { result ≡ reading_of reply.now }
 {
     Reading {
         result: result_of(reply),

@@ -27,7 +27,7 @@ pub const NO_WRITES_PERFORMED: &str = "NoWritesPerformed";
 
 /// What an error's code says of the server's state, None where it is no state change error (SDAM, Error handling).
 pub fn state_change(code: i32) -> Option<StateChange>
-    ensures { result ≡ state_change_of code }
+    ensures change { result ≡ state_change_of code }
 {
     if is_not_writable(code) || is_recovering(code) {
         Some(StateChange {

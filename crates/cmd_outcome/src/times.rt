@@ -12,7 +12,7 @@ use std::alloc::Global;
 /// The cluster time that a reply gossips, as the server sent it: its `$clusterTime`, a document with a timestamp
 /// `clusterTime`; None where it is absent or no such document (Driver Sessions, Gossipping the cluster time).
 pub fn cluster_time(alloc: Global, reply: &Document) -> Result<Option<ClusterTime>, Memory>
-    ensures { IfOk result (λ time. time ≡ time_in reply.now) }
+    ensures time { IfOk result (λ time. time ≡ time_in reply.now) }
 {
     let Some(body) = document(reply, "$clusterTime") else {
         return Ok(None);

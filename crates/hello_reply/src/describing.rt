@@ -1,19 +1,17 @@
-ghost use Rattle.std.specs.Prelude.{◌≡◌, ◌≢◌, ◌-◌, ◌^◌, min, Err, IfOk};
+ghost use Rattle.std.specs.Prelude.{◌≡◌, ◌≢◌, Err, IfOk};
 ghost use Rattle.std.specs.List.{IsDistinct};
 ghost use Rattle.host_name.specs.Addresses.{is_same_address};
 ghost use Rattle.hello_reply.specs.Descriptions.{describes, described as description_of};
+ghost use Rattle.hello_reply.specs.Listed.{listed as listed_hosts};
 ghost use Rattle.hello_reply.specs.declared.fault.ReplyFault.{ReplyFault};
 
 use crate::defaults::{DEFAULT_BATCH, DEFAULT_DOC, DEFAULT_MESSAGE, DEFAULT_WIRE};
 use crate::kinds::{is_ok, kind_of};
 use crate::listed::listed;
 use crate::{FieldName, Memory, ReplyFault, ServerDescription, default_unknown, fields};
-use bson_doc::Document;
+use bson_doc::{Document, Rows};
 use host_name::Host;
 use std::alloc::Global;
-
-/// The most hosts that a reply may list.
-const MOST_HOSTS: usize = 1_000;
 
 /// The description of the server that answered `hello` with this reply, or the first fault of the reply.
 ///
@@ -34,20 +32,19 @@ pub fn describe(
     if let Some(field) = fields::first_fault(alloc, reply)? {
         return Err(ReplyFault::Field(field));
     }
-    let description = described(alloc, reply, host)?;
-    let count = description.listed.len();
-    if count > MOST_HOSTS {
-        return Err(ReplyFault::Many {
-            count: capped(count),
-        });
-    }
-    Ok(description)
+    let listed = listed(alloc, reply)?;
+    Ok(described(alloc, reply, host, listed)?)
 }
 
-/// What a reply says of its server, without a look at faults.
-fn described(alloc: Global, reply: &Document, host: &Host) -> Result<ServerDescription, Memory>
-    ensures value { IfOk result (λ d. d ≡ description_of reply.now.elements host.now) }
-    ensures differ { IfOk result (λ d. IsDistinct is_same_address d.listed) }
+/// What a reply says of its server that lists these hosts, without a look at faults.
+fn described(
+    alloc: Global,
+    reply: &Document,
+    host: &Host,
+    listed: Rows<Host>,
+) -> Result<ServerDescription, Memory>
+    requires { listed ≡ listed_hosts reply.now.elements }
+    ensures { IfOk result (λ d. d ≡ description_of reply.now.elements host.now) }
 {
     Ok(ServerDescription {
         host: host.copy(alloc)?,
@@ -57,7 +54,7 @@ fn described(alloc: Global, reply: &Document, host: &Host) -> Result<ServerDescr
         election: fields::oid(reply, FieldName::ElectionId),
         primary: fields::host(alloc, reply, FieldName::Primary)?,
         me: fields::host(alloc, reply, FieldName::Me)?,
-        listed: listed(alloc, reply)?,
+        listed,
         tags: fields::tags(alloc, reply, FieldName::Tags)?,
         min_wire: fields::short(reply, FieldName::MinWireVersion).unwrap_or(DEFAULT_WIRE),
         max_wire: fields::short(reply, FieldName::MaxWireVersion).unwrap_or(DEFAULT_WIRE),
@@ -68,11 +65,4 @@ fn described(alloc: Global, reply: &Document, host: &Host) -> Result<ServerDescr
         max_batch: fields::size(reply, FieldName::MaxWriteBatchSize).unwrap_or(DEFAULT_BATCH),
         mean: None,
     })
-}
-
-/// The count, or the greatest number of 32 bits where it is more.
-fn capped(count: usize) -> u32
-    ensures { result ≡ min count (2 ^ 32 - 1) }
-{
-    count.min(u32::MAX as usize) as u32
 }

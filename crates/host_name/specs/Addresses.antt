@@ -1,5 +1,7 @@
 -- What a host is, and how two of them compare.
-use Rattle.std.specs.Prelude.{◌≡◌, ℕ, Bool, true, List, ◌++◌, ◌&&◌, nat_eq, IsTrue}
+use Rattle.std.specs.Prelude.{◌≡◌, ◌≤◌, ◌<◌, ℕ, Bool, true, List, ◌∷◌, ◌++◌, ◌&&◌, nat_eq, IsTrue, length}
+use Rattle.std.specs.Fmt.{decimal}
+use Rattle.std.specs.Str.{str_to_ascii_lowercase}
 use Rattle.std.specs.declared.cmp.Ordering.{Ordering}
 use Rattle.std.specs.Ordering.{nat_cmp, on, then_cmp, eq_of_both}
 use Rattle.std.specs.Cmp.{first_so, second_so}
@@ -13,6 +15,18 @@ use Rattle.std.proofs.lemmas.Bool.{eqb-true}
 pub record Address : Type 0 where
   pub name : List ℕ
   pub port : ℕ
+
+-- What every host keeps: its name is not empty and has no letter from A to Z, and its port is at least 1 (Connection String,
+-- Host Information; SDAM: addresses are compared in lower case).
+pub record IsHost (a : Address) : Type 0 where
+  pub named : 0 < length a.name
+  pub lower_case : str_to_ascii_lowercase a.name ≡ a.name
+  pub has_port : 1 ≤ a.port
+
+-- A host as it is displayed and dialled: the name, a colon and the port in decimal digits (Connection String, Host
+-- Information).
+abbrev pub address_text : Address → List ℕ
+address_text a = a.name ++ 58 ∷ decimal a.port
 
 -- Two hosts are equal where both name and port are (SDAM: addresses are compared in lower case, which names are in).
 abbrev pub is_same_address : Address → Address → Bool

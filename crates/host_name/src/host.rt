@@ -1,9 +1,9 @@
-ghost use Rattle.std.specs.Prelude.{◌≡◌, ◌↔◌, IfOk, IsTrue, IsUtf8, string_bytes};
+ghost use Rattle.std.specs.Prelude.{◌≡◌, ◌≤◌, ◌↔◌, [], IfOk, IsOk, IsTrue, IsUtf8, Some, length, string_bytes, string_capacity};
 ghost use Rattle.std.specs.Ordering.{as_partial_cmp};
 ghost use Rattle.std.specs.Cmp.{partial_order_from_own_ties};
 ghost use Rattle.std.specs.Cmp.Rules.{comparing};
 ghost use Rattle.std.proofs.Common.{rules};
-ghost use Rattle.host_name.specs.Addresses.{is_same_address, address_cmp, address_writes, address_writes-same};
+ghost use Rattle.host_name.specs.Addresses.{is_same_address, address_cmp, address_text, address_writes, address_writes-same, IsHost};
 
 use crate::Memory;
 use std::alloc::Global;
@@ -21,15 +21,18 @@ pub struct Host {
 
 impl Model for Host {
     ghost use Rattle.std.specs.Prelude.{string_bytes};
-    ghost use Rattle.host_name.specs.Addresses.{Address};
+    ghost use Rattle.host_name.specs.Addresses.{Address, IsHost};
 
     ghost Value = { Address };
 
     ghost view = { λ h. record { name = string_bytes h.name; port = h.port } };
+
+    ghost invariant = { λ h. IsHost (record { name = string_bytes h.name; port = h.port }) };
 }
 
 impl Host {
     pub(crate) fn new(name: String, port: u16) -> Host
+        requires { IsHost (record { name = string_bytes name; port = port }) }
         ensures { result ≡ record { name = string_bytes name; port = port } }
     {
         Host { name, port }
@@ -39,15 +42,24 @@ impl Host {
     pub fn name(&self) -> &str
         ensures value { result.now ≡ self.now.name }
         ensures utf8 { IsUtf8 result.now }
+        ensures host { IsHost self.now }
     {
         self.name.as_str()
     }
 
     /// The port.
     pub fn port(&self) -> u16
-        ensures { result ≡ self.now.port }
+        ensures value { result ≡ self.now.port }
+        ensures at_least_one { 1 ≤ result }
     {
         self.port
+    }
+
+    /// The host as it is displayed and dialled, `name:port`.
+    pub fn text(&self, alloc: Global) -> Result<String, Memory>
+        ensures { IfOk result (λ text. string_bytes text ≡ address_text self.now) }
+    {
+        self.to_string(alloc)
     }
 
     /// An equal host.
@@ -55,6 +67,20 @@ impl Host {
         ensures { IfOk result (λ h. h ≡ self.now) }
     {
         let name = String::from_str(alloc, self.name())?;
+        Ok(Host {
+            name,
+            port: self.port,
+        })
+    }
+
+    /// An equal host in the room of an empty string, which may be reserved ahead.
+    pub fn copy_into(&self, room: String) -> Result<Host, Memory>
+        requires { string_bytes room ≡ [] }
+        ensures copy { IfOk result (λ h. h ≡ self.now) }
+        ensures succeeds { length self.now.name ≤ string_capacity room → IsOk result }
+    {
+        let mut name = room;
+        name.push_str(self.name())?;
         Ok(Host {
             name,
             port: self.port,
@@ -117,6 +143,8 @@ impl Hash for Host {
 }
 
 impl fmt::Display for Host {
+    ghost output = { λ h. Some (address_text h) };
+
     fn fmt<W: fmt::Write>(&self, f: &mut fmt::Formatter<W>) -> fmt::Result {
         write!(f, "{}:{}", self.name(), self.port)
     }

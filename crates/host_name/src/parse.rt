@@ -1,4 +1,4 @@
-ghost use Rattle.std.specs.Prelude.{◌≡◌, ◌≢◌, ◌<◌, ◌++◌, ◌∷◌, [], false, IsTrue, IfOk, IfSome, is_some, Some, string_bytes};
+ghost use Rattle.std.specs.Prelude.{◌≡◌, ◌≢◌, ◌<◌, ◌≤◌, ◌++◌, ◌∷◌, [], false, IsTrue, IfOk, IfSome, is_some, Some, string_bytes};
 ghost use Rattle.std.specs.List.{list_all};
 ghost use Rattle.std.specs.Option.{option_map};
 ghost use Rattle.std.specs.Char.{is_ascii_digit};
@@ -93,7 +93,8 @@ fn bracketed_name(alloc: Global, front: &str, inside: &str) -> Result<String, Me
 
 /// The number of a port, if its digits are those of one; the default port where there are none.
 fn port_in(digits: Option<&str>) -> Option<u16>
-    ensures { result ≡ port_of (option_map (λ d. d.now) digits.entry) }
+    ensures value { result ≡ port_of (option_map (λ d. d.now) digits.entry) }
+    ensures at_least_one { IfSome result (λ port. 1 ≤ port) }
 {
     match digits {
         None => Some(DEFAULT_PORT),
@@ -103,7 +104,8 @@ fn port_in(digits: Option<&str>) -> Option<u16>
 
 /// The number that one to five digits spell, from 1 to 65535.
 fn port_number(digits: &str) -> Option<u16>
-    ensures { result ≡ port_of (Some digits.now) }
+    ensures value { result ≡ port_of (Some digits.now) }
+    ensures at_least_one { IfSome result (λ port. 1 ≤ port) }
 {
     if digits.len() > MOST_DIGITS || !is_digits(digits) {
         return None;

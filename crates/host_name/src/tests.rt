@@ -93,6 +93,8 @@ fn shows_and_copies(rt: HostRuntime) -> Result<(), Fail> {
     let host = Host::parse(rt.alloc(), "[::A]")?;
     let shown = format!(in rt.alloc(); "{host}")?;
     assert_eq!(rt; shown.as_str(), "[::a]:27017");
+    let text = host.text(rt.alloc())?;
+    assert_eq!(rt; text.as_str(), "[::a]:27017");
     let copy = host.copy(rt.alloc())?;
     assert!(rt; copy == host);
     Ok(())

@@ -28,14 +28,14 @@ impl Model for TimeGossip {
 impl TimeGossip {
     /// A client that has seen no cluster time.
     pub fn new() -> TimeGossip
-        ensures { result ≡ None }
+        ensures none { result ≡ None }
     {
         TimeGossip { greatest: None }
     }
 
     /// Takes a server's cluster time in: it is kept where its stamp is greater than that of the time that is kept.
     pub fn advance(&mut self, time: ClusterTime)
-        ensures { self.new ≡ greater self.old time }
+        ensures greater { self.new ≡ greater self.old time }
     {
         if self.is_below(time.stamp) {
             self.greatest = Some(time);
@@ -44,7 +44,7 @@ impl TimeGossip {
 
     /// The greatest cluster time that was seen; None where none was.
     pub fn greatest(&self) -> Option<&ClusterTime>
-        ensures { option_copied result ≡ self.now }
+        ensures kept { option_copied result ≡ self.now }
     {
         self.greatest.as_ref()
     }

@@ -25,14 +25,14 @@ returns-in-Str-clause-known c =
     on_ok_weaker c.put_string.result (λ small. str_spells c.args.value.now c.as_str.result.now is c.as_str.ensures.utf8 small) c.put_string.ensures.size
 
 pub returns-in-Binary-clause-ok : goal.returns-in-Binary-clause-ok
-returns-in-Binary-clause-ok c = rw (payload-Binary c.args.value.now _ _ c.in-Binary.is, ← c.as_slice.ensures) c.put_binary.ensures.ok
+returns-in-Binary-clause-ok c = rw (payload-Binary c.args.value.now _ _ c.in-Binary.is, ← c.as_slice.ensures.value) c.put_binary.ensures.ok
 
 pub returns-in-Binary-clause-long : goal.returns-in-Binary-clause-long
-returns-in-Binary-clause-long c = rw (payload-Binary c.args.value.now _ _ c.in-Binary.is, ← c.as_slice.ensures) c.put_binary.ensures.long
+returns-in-Binary-clause-long c = rw (payload-Binary c.args.value.now _ _ c.in-Binary.is, ← c.as_slice.ensures.value) c.put_binary.ensures.long
 
 pub returns-in-Binary-clause-known : goal.returns-in-Binary-clause-known
 returns-in-Binary-clause-known c =
-    let is = c.in-Binary.is ∙ ap (λ (held : List ℕ). value.Binary c.in-Binary.subtype held) (sym c.as_slice.ensures) in
+    let is = c.in-Binary.is ∙ ap (λ (held : List ℕ). value.Binary c.in-Binary.subtype held) (sym c.as_slice.ensures.value) in
     on_ok_weaker c.put_binary.result (λ small. binary_spells c.args.value.now c.in-Binary.subtype c.as_slice.result.now is small) c.put_binary.ensures.size
 
 pub returns-in-Undefined-clause-ok : goal.returns-in-Undefined-clause-ok

@@ -9,7 +9,7 @@ use Rattle.bson_wire.proofs.reading.+reading.Goals as goal
 pub elements_of-loop-rest-init : goal.elements_of-loop-rest-init
 elements_of-loop-rest-init t c = record {
   within = c.requires.within;
-  goes_on = λ fuel le. (fuel, le, rw c.new-elements.ensures (bind-Ok _));
+  goes_on = λ fuel le. (fuel, le, rw c.new-elements.ensures.empty (bind-Ok _));
 }
 
 pub elements_of-returns-in_err-element : goal.elements_of-returns-in_err-element
@@ -29,7 +29,7 @@ elements_of-returns t c = λ fuel le. is_done (λ es. es) (λ e. e) elements_vie
 pub items_of-loop-rest-init : goal.items_of-loop-rest-init
 items_of-loop-rest-init t c = record {
   within = c.requires.within;
-  goes_on = λ fuel le. (fuel, le, rw c.new-items.ensures refl);
+  goes_on = λ fuel le. (fuel, le, rw c.new-items.ensures.empty refl);
 }
 
 pub items_of-returns-in_err-value : goal.items_of-returns-in_err-value

@@ -14,10 +14,10 @@ size_of_items-returns t c =
     omega (arith, at_drop_all (λ vs. length (numbered c.loop-place.place (map payload vs))) c.args.items.now c.loop-place.place (omega arith))
 
 pub size_of_value-returns-in-Doc : goal.size_of_value-returns-in-Doc
-size_of_value-returns-in-Doc t c = rw (payload-Doc _ _ c.in-Doc.is) c.size.ensures
+size_of_value-returns-in-Doc t c = rw (payload-Doc _ _ c.in-Doc.is) c.size.ensures.size
 
 pub size_of_value-returns-in-Array : goal.size_of_value-returns-in-Array
-size_of_value-returns-in-Array t c = rw (payload-Array _ _ c.in-Array.is, ← c.as_slice.ensures)
+size_of_value-returns-in-Array t c = rw (payload-Array _ _ c.in-Array.is, ← c.as_slice.ensures.value)
     (omega (arith, length-document (numbered 0 (map payload c.as_slice.result.now))))
 
 pub size_of_value-returns-in-Scope : goal.size_of_value-returns-in-Scope

@@ -42,7 +42,7 @@ put_document-returns-in_err-put_element-clause-long t c =
     let text = element c.as_str.result.now (payload e.1) in
     let after = spelled_elements (drop (i + 1) es) in
     let cut = elements_left es i e c.loop-name-test.true c.loop-name-item.is ∙ ap (λ (name : List ℕ). element name (payload e.1) ++ after) (sym c.as_str.ensures.value) in
-    rw (p.1, p.2, ← c.as_slice-name-items.ensures) (stops_more (length text) _ c.in_err-put_element.field-0.0 (part-le c.args.out.now.items c.loop-name.out.items text _ after _ (omega arith) cut c.loop-name.invariant.written) c.in_err-put_element.ensures.long)
+    rw (p.1, p.2, ← c.as_slice-name-items.ensures.value) (stops_more (length text) _ c.in_err-put_element.field-0.0 (part-le c.args.out.now.items c.loop-name.out.items text _ after _ (omega arith) cut c.loop-name.invariant.written) c.in_err-put_element.ensures.long)
 
 pub put_document-loop-name-preserved : goal.put_document-loop-name-preserved
 put_document-loop-name-preserved t c =
@@ -70,14 +70,14 @@ pub put_value-returns-in-Doc-clause-known : goal.put_value-returns-in-Doc-clause
 put_value-returns-in-Doc-clause-known t c = OnOk-both c.put_document.result (λ known small. doc_spells c.args.value.now _ c.in-Doc.is known small) c.put_document.ensures.known c.put_document.ensures.size
 
 pub put_value-returns-in-Array-clause-ok : goal.put_value-returns-in-Array-clause-ok
-put_value-returns-in-Array-clause-ok t c = rw (payload-Array c.args.value.now _ c.in-Array.is, ← c.as_slice.ensures) c.put_array.ensures.ok
+put_value-returns-in-Array-clause-ok t c = rw (payload-Array c.args.value.now _ c.in-Array.is, ← c.as_slice.ensures.value) c.put_array.ensures.ok
 
 pub put_value-returns-in-Array-clause-long : goal.put_value-returns-in-Array-clause-long
-put_value-returns-in-Array-clause-long t c = rw (payload-Array c.args.value.now _ c.in-Array.is, ← c.as_slice.ensures) c.put_array.ensures.long
+put_value-returns-in-Array-clause-long t c = rw (payload-Array c.args.value.now _ c.in-Array.is, ← c.as_slice.ensures.value) c.put_array.ensures.long
 
 pub put_value-returns-in-Array-clause-known : goal.put_value-returns-in-Array-clause-known
 put_value-returns-in-Array-clause-known t c =
-    let is = c.in-Array.is ∙ ap value.Array (sym c.as_slice.ensures) in
+    let is = c.in-Array.is ∙ ap value.Array (sym c.as_slice.ensures.value) in
     OnOk-both c.put_array.result (λ known small. array_spells c.args.value.now c.as_slice.result.now is known small) c.put_array.ensures.known c.put_array.ensures.size
 
 pub put_value-returns-in-Scope-clause-ok : goal.put_value-returns-in-Scope-clause-ok

@@ -5,10 +5,9 @@ ghost use Rattle.bson_doc.specs.wire.Limits.{most_bytes};
 ghost use Rattle.bson_doc.specs.wire.Reading.{Gives, plain_at};
 
 use crate::BsonFault;
-use bson_doc::PlainKind;
 use crate::parts::{bytes_of, place, raw};
 use crate::span::Span;
-use bson_doc::{Oid, Value};
+use bson_doc::{Oid, PlainKind, Value};
 use byteorder::{ByteOrder, LittleEndian};
 
 /// A double, as its eight bytes.

@@ -17,6 +17,7 @@
 //! `plain_put`.
 #![tactic(auto)]
 
+mod appending;
 mod decoding;
 mod encoding;
 mod fault;
@@ -35,8 +36,10 @@ mod tests;
 mod varying;
 mod writing;
 
+pub use appending::append;
+pub use bson_doc::BsonFault;
 pub use decoding::decode;
 pub use encoding::encode;
-pub use bson_doc::BsonFault;
 pub use fault::EncodeFault;
+pub use limits::MOST_LEVELS;
 pub use sizes::size;

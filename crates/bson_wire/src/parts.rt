@@ -1,6 +1,6 @@
 //! The parts that values are made of: numbers of bytes, lengths, names and texts.
 
-ghost use Rattle.std.specs.Prelude.{◌≡◌, ◌≤◌, ◌+◌, ◌-◌, ◌==◌, length, position, IfOk, IfErr};
+ghost use Rattle.std.specs.Prelude.{◌≡◌, ◌≤◌, ◌+◌, ◌-◌, length, IfOk, IfErr};
 ghost use Rattle.bson_doc.specs.Names.{HasNoZero};
 ghost use Rattle.bson_doc.specs.wire.Limits.{most_bytes};
 ghost use Rattle.bson_doc.specs.wire.Reading.{Gives, bytes_at, byte_at, behind_zero, text_at, name_at, length_at, string_at};

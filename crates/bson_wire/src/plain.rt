@@ -6,10 +6,9 @@ ghost use Rattle.bson_doc.specs.wire.Reading.{Gives, plain_at};
 
 use crate::BsonFault;
 use crate::fixed::{bool_of, date_of, decimal_of, double_of, int32_of, int64_of, oid_of, stamp_of};
-use bson_doc::PlainKind;
 use crate::span::Span;
 use crate::varying::{binary_of, code_of, pointer_of, regex_of, str_of, symbol_of};
-use bson_doc::Value;
+use bson_doc::{PlainKind, Value};
 use std::alloc::Global;
 
 /// A value of a kind that holds no document.

@@ -9,10 +9,9 @@ ghost use Rattle.bson_doc.specs.wire.Spelled.{number32, int64, string, binary, r
 ghost use Rattle.bson_wire.specs.Written.{Stops, PayloadSpells, IsPlain};
 
 use crate::EncodeFault;
-use bson_doc::{Kind, PlainKind};
 use crate::limits::MOST_BYTES;
 use crate::put::{put_byte, put_bytes, put_number, put_string};
-use bson_doc::{Name, Oid, Value};
+use bson_doc::{Kind, Name, Oid, PlainKind, Value};
 use byteorder::{ByteOrder, LittleEndian};
 
 /// The kind of a value.

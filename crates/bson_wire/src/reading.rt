@@ -5,11 +5,10 @@ ghost use Rattle.bson_doc.specs.wire.Limits.{most_bytes};
 ghost use Rattle.bson_doc.specs.wire.Reading.{Gives, unnamed_element, unnamed_elements, unnamed_document, kind_at, value_at, scope_at, element_at, elements_at, body_at, document_at};
 
 use crate::BsonFault;
-use bson_doc::Kind;
 use crate::parts::{length_of, name_of, place, string_of, taken_name, zero_of};
 use crate::plain::plain_of;
 use crate::span::Span;
-use bson_doc::{Document, Name, Rows, Text, Value};
+use bson_doc::{Document, Kind, Name, Rows, Text, Value};
 use std::alloc::Global;
 
 /// The elements of a document of that total and the bytes from its last one on, of the bytes behind its length.

@@ -5,10 +5,9 @@ ghost use Rattle.bson_doc.specs.wire.Limits.{most_bytes};
 ghost use Rattle.bson_doc.specs.wire.Reading.{Gives, plain_at};
 
 use crate::BsonFault;
-use bson_doc::PlainKind;
 use crate::parts::{byte_of, bytes_of, length_of, name_of, place, raw, string_of, taken_name};
 use crate::span::Span;
-use bson_doc::{Bytes, Oid, Value};
+use bson_doc::{Bytes, Oid, PlainKind, Value};
 use std::alloc::Global;
 
 /// A text.

@@ -4,12 +4,13 @@ use Rattle.std.proofs.lemmas.Bool.{cases_lt}
 use Rattle.std.proofs.lemmas.Bool.Decides.{nat_tests}
 use Rattle.std.proofs.lemmas.List.{take_all, take-append-le, length-take-le}
 use Rattle.std.specs.Int.{w32, cast_signed}
+use Rattle.bson_doc.specs.Steps.{fault_of}
+use Rattle.bson_doc.proofs.Steps.{IfErr-bind, err_ok, err_same, err_from_fault}
 use Rattle.msg_wire.specs.Asking.{AsksFor, IsWhole}
 use Rattle.msg_wire.specs.Flags.{refused_bit, checksum_size}
 use Rattle.msg_wire.specs.Framing.{Framed}
 use Rattle.msg_wire.specs.Fields.{number_at}
 use Rattle.msg_wire.specs.Reading.{is_length, need_of, checked_header, header_at, checked_flags, message_at, read, flaw}
-use Rattle.msg_wire.specs.Steps.{fault_of}
 use Rattle.msg_wire.specs.declared.fault.MsgFault.{MsgFault}
 use Rattle.msg_wire.specs.declared.fault.MsgFault.TheVariants as fault
 use Rattle.msg_wire.specs.declared.message.Message.{Message}
@@ -18,63 +19,89 @@ use Rattle.msg_wire.specs.Sections.{sections_at}
 use Rattle.msg_wire.proofs.Behind.{IsBehind, IsBehind-sections_at}
 use Rattle.msg_wire.proofs.Headers.{InOrder, InOrder-from_tests, header_at-whole}
 use Rattle.msg_wire.proofs.Places.{number_at-append, number_at-take}
-use Rattle.msg_wire.proofs.Steps.{IfErr-bind, err_ok, err_same, err_from_fault}
 
-IsBehind-checked_flags : (flags : ℕ) (refused : Option ℕ) → IfErr (checked_flags flags refused) IsBehind
-IsBehind-checked_flags flags None = tt
-IsBehind-checked_flags flags (Some bit) = tt
+-- A fault of a message whose header is in order: of its flagBits, or of its sections.
+abbrev pub IsOfMessage : List ℕ → MsgFault → Type 0
+IsOfMessage bytes (fault.Flags bit) = refused_bit (number_at 16 bytes) ≡ Some bit
+IsOfMessage bytes e = IsBehind (length bytes) e
 
-IsBehind-message_at : (bytes : List ℕ) → IfErr (message_at bytes) IsBehind
+of_flags : (bytes : List ℕ) (flags : ℕ) (refused : Option ℕ) → refused_bit (number_at 16 bytes) ≡ refused → IfErr (checked_flags flags refused) (IsOfMessage bytes)
+of_flags bytes flags None h = tt
+of_flags bytes flags (Some bit) h = h
+
+of_sections : {A : Type 0} (bytes : List ℕ) (r : Result A MsgFault) → IfErr r (IsBehind (length bytes)) → IfErr r (IsOfMessage bytes)
+of_sections bytes (Ok x) h = tt
+of_sections bytes (Err (fault.Short need)) h = h
+of_sections bytes (Err (fault.Length got)) h = h
+of_sections bytes (Err (fault.Opcode got)) h = h
+of_sections bytes (Err (fault.Flags bit)) h = absurd h
+of_sections bytes (Err (fault.Sections at)) h = h
+of_sections bytes (Err (fault.Body at inner)) h = h
+of_sections bytes (Err fault.Memory) h = h
+
+IfErr-message_at : (bytes : List ℕ) → IfErr (message_at bytes) (IsOfMessage bytes)
 unfolding message_at
-IsBehind-message_at bytes =
-    IfErr-bind IsBehind (checked_flags (number_at 16 bytes) (refused_bit (number_at 16 bytes))) _ (IsBehind-checked_flags (number_at 16 bytes) (refused_bit (number_at 16 bytes)))
-    (λ flags. IfErr-bind IsBehind (sections_at (length bytes) (checksum_size flags) (length bytes) None (drop 20 bytes)) _ (IsBehind-sections_at (length bytes) (checksum_size flags) (length bytes) None (drop 20 bytes)) (λ held. tt))
+IfErr-message_at bytes =
+    let end : ℕ = length bytes in
+    let flags : ℕ = number_at 16 bytes in
+    IfErr-bind (IsOfMessage bytes) (checked_flags flags (refused_bit flags)) _ (of_flags bytes flags (refused_bit flags) refl)
+    (λ known. IfErr-bind (IsOfMessage bytes) (sections_at end (checksum_size known) end None (drop 20 bytes)) _ (of_sections bytes (sections_at end (checksum_size known) end None (drop 20 bytes)) (IsBehind-sections_at end (checksum_size known) end None (drop 20 bytes))) (λ held. tt))
 
 -- A fault of the header's own numbers.
-abbrev pub IsRefusal : MsgFault → Type 0
-IsRefusal (fault.Length got) = Unit {0}
-IsRefusal (fault.Opcode got) = Unit {0}
-IsRefusal _ = ⊥
+abbrev pub IsRefusal : ℕ → ℕ → MsgFault → Type 0
+IsRefusal total code (fault.Length got) = (is_length total ≡ false) × (got ≡ cast_signed w32 total)
+IsRefusal total code (fault.Opcode got) = (code ≢ 2013) × (got ≡ cast_signed w32 code)
+IsRefusal total code _ = ⊥
 
 -- The header has a fault of its own, however many bytes are there.
-abbrev IsRefused : ℕ → ℕ → Type 0
-IsRefused total code = (e : MsgFault) × IsRefusal e × ((there : ℕ) → checked_header there total code ≡ Err e)
+abbrev pub IsRefused : ℕ → ℕ → Type 0
+IsRefused total code = (e : MsgFault) × IsRefusal total code e × ((there : ℕ) → checked_header there total code ≡ Err e)
+
+not_true : (b : Bool) → not b ≡ true → b ≡ false
+not_true true h = sym h
+not_true false h = refl
+
+other_code : (code : ℕ) → not (eqb code 2013) ≡ true → code ≢ 2013
+other_code code h same = let clash : not (eqb 2013 2013) ≡ true = subst (λ (n : ℕ). not (eqb n 2013) ≡ true) same h in cc
 
 judged_by : (total code : ℕ) (a b : Bool) → not (is_length total) ≡ a → not (eqb code 2013) ≡ b → InOrder total code ⊎ IsRefused total code
-judged_by total code true b p q = inr (fault.Length (cast_signed w32 total), tt, λ there. rw p refl)
-judged_by total code false true p q = inr (fault.Opcode (cast_signed w32 code), tt, λ there. rw (p, q) refl)
+judged_by total code true b p q = inr (fault.Length (cast_signed w32 total), (not_true (is_length total) p, refl), λ there. rw p refl)
+judged_by total code false true p q = inr (fault.Opcode (cast_signed w32 code), (other_code code q, refl), λ there. rw (p, q) refl)
 judged_by total code false false p q = inl (InOrder-from_tests total code p q)
 
-judged : (total code : ℕ) → InOrder total code ⊎ IsRefused total code
+pub judged : (total code : ℕ) → InOrder total code ⊎ IsRefused total code
 judged total code = judged_by total code (not (is_length total)) (not (eqb code 2013)) refl refl
 
-read-early : (bytes : List ℕ) → length bytes < 16 → read bytes ≡ Err (fault.Short 16)
+pub read-early : (bytes : List ℕ) → length bytes < 16 → read bytes ≡ Err (fault.Short 16)
 unfolding read header_at
 read-early bytes few = let test : ltb (length bytes) 16 ≡ true = grind (arith, nat_tests) in rw test refl
 
-read-refused : (bytes : List ℕ) (e : MsgFault) → 16 ≤ length bytes → checked_header (length bytes) (number_at 0 bytes) (number_at 12 bytes) ≡ Err e → read bytes ≡ Err e
+pub read-refused : (bytes : List ℕ) (e : MsgFault) → 16 ≤ length bytes → checked_header (length bytes) (number_at 0 bytes) (number_at 12 bytes) ≡ Err e → read bytes ≡ Err e
 unfolding read header_at
 read-refused bytes e there h = let test : ltb (length bytes) 16 ≡ false = grind (arith, nat_tests) in rw (test, h) refl
 
-read-partial : (bytes : List ℕ) → 16 ≤ length bytes → InOrder (number_at 0 bytes) (number_at 12 bytes) → length bytes < number_at 0 bytes
+pub read-partial : (bytes : List ℕ) → 16 ≤ length bytes → InOrder (number_at 0 bytes) (number_at 12 bytes) → length bytes < number_at 0 bytes
     → read bytes ≡ Err (fault.Short (number_at 0 bytes))
 unfolding read
 read-partial bytes there order few =
     let test : ltb (length bytes) (number_at 0 bytes) ≡ true = grind (arith, nat_tests) in
     rw (header_at-whole bytes there order, test) refl
 
-read-whole : (bytes : List ℕ) → 16 ≤ length bytes → InOrder (number_at 0 bytes) (number_at 12 bytes) → number_at 0 bytes ≤ length bytes
+pub read-whole : (bytes : List ℕ) → 16 ≤ length bytes → InOrder (number_at 0 bytes) (number_at 12 bytes) → number_at 0 bytes ≤ length bytes
     → read bytes ≡ message_at (take (number_at 0 bytes) bytes)
 unfolding read
 read-whole bytes there order enough =
     let test : ltb (length bytes) (number_at 0 bytes) ≡ false = grind (arith, nat_tests) in
     rw (header_at-whole bytes there order, test) refl
 
-not_behind : (r : Result Message MsgFault) (e : MsgFault) → IfErr r IsBehind → r ≡ Err e → (IsBehind e → ⊥) → ⊥
-not_behind (Ok m) e b h front = absurd (err_ok (sym h))
-not_behind (Err f) e b h front = front (subst IsBehind (err_same (Err f) f e refl h) b)
+of_result : (bytes : List ℕ) (r : Result Message MsgFault) (e : MsgFault) → IfErr r (IsOfMessage bytes) → r ≡ Err e → IsOfMessage bytes e
+of_result bytes (Ok m) e b h = absurd (err_ok (sym h))
+of_result bytes (Err f) e b h = subst (IsOfMessage bytes) (err_same (Err f) f e refl h) b
 
-read-flaw : (bytes : List ℕ) (e : MsgFault) → flaw bytes ≡ Some e → read bytes ≡ Err e
+pub of_message : (bytes : List ℕ) (e : MsgFault) → message_at bytes ≡ Err e → IsOfMessage bytes e
+of_message bytes e h = of_result bytes (message_at bytes) e (IfErr-message_at bytes) h
+
+pub read-flaw : (bytes : List ℕ) (e : MsgFault) → flaw bytes ≡ Some e → read bytes ≡ Err e
 unfolding flaw
 read-flaw bytes e h = err_from_fault (read bytes) e h
 
@@ -106,12 +133,12 @@ pub Waits-from_flaw : (bytes : List ℕ) (n : ℕ) → 16 ≤ length bytes → f
 Waits-from_flaw bytes n there h = elim (judged (number_at 0 bytes) (number_at 12 bytes)) [
   | inr refused ↦
       let same = err_same (read bytes) refused.0 (fault.Short n) (read-refused bytes refused.0 there (refused.2 (length bytes))) (read-flaw bytes (fault.Short n) h) in
-      absurd (subst IsRefusal same refused.1)
+      absurd (subst (IsRefusal (number_at 0 bytes) (number_at 12 bytes)) same refused.1)
   | inl order ↦ elim (cases_lt (length bytes) (number_at 0 bytes)) [
     | inl few ↦
         let total = short_is (read bytes) (number_at 0 bytes) n (read-partial bytes there order few) (read-flaw bytes (fault.Short n) h) in
         record { order = order; total = total; fewer = omega arith }
-    | inr enough ↦ absurd (not_behind (message_at (take (number_at 0 bytes) bytes)) (fault.Short n) (IsBehind-message_at (take (number_at 0 bytes) bytes)) (sym (read-whole bytes there order enough) ∙ read-flaw bytes (fault.Short n) h) (λ b. b))
+    | inr enough ↦ absurd (of_message (take (number_at 0 bytes) bytes) (fault.Short n) (sym (read-whole bytes there order enough) ∙ read-flaw bytes (fault.Short n) h))
   ]
 ]
 
@@ -168,10 +195,10 @@ still_short bytes more n h few = elim (cases_lt (length bytes) 16) [
 ]
 
 -- Where the header is in order, no fault is its own.
-not_refusal : (bytes : List ℕ) (e : MsgFault) → 16 ≤ length bytes → InOrder (number_at 0 bytes) (number_at 12 bytes) → IsRefusal e → (IsBehind e → ⊥) → e ≢ fault.Short (number_at 0 bytes) → flaw bytes ≢ Some e
-not_refusal bytes e there order r b s h = elim (cases_lt (length bytes) (number_at 0 bytes)) [
+not_refusal : (bytes : List ℕ) (e : MsgFault) → 16 ≤ length bytes → InOrder (number_at 0 bytes) (number_at 12 bytes) → (IsOfMessage (take (number_at 0 bytes) bytes) e → ⊥) → e ≢ fault.Short (number_at 0 bytes) → flaw bytes ≢ Some e
+not_refusal bytes e there order b s h = elim (cases_lt (length bytes) (number_at 0 bytes)) [
   | inl few ↦ s (err_same (read bytes) e (fault.Short (number_at 0 bytes)) (read-flaw bytes e h) (read-partial bytes there order few))
-  | inr enough ↦ not_behind (message_at (take (number_at 0 bytes) bytes)) e (IsBehind-message_at (take (number_at 0 bytes) bytes)) (sym (read-whole bytes there order enough) ∙ read-flaw bytes e h) b
+  | inr enough ↦ b (of_message (take (number_at 0 bytes) bytes) e (sym (read-whole bytes there order enough) ∙ read-flaw bytes e h))
 ]
 
 pub header_first : (bytes more : List ℕ) (n : ℕ) (got : ℤ) → 16 ≤ length bytes → flaw bytes ≡ Some (fault.Short n)
@@ -180,7 +207,7 @@ header_first bytes more n got there h =
     let w = Waits-from_flaw bytes n there h in
     let order = in_order-append bytes more there w.order in
     let there' : 16 ≤ length (bytes ++ more) = omega (arith, length-append bytes more) in
-    (not_refusal (bytes ++ more) (fault.Length got) there' order tt (λ b. b) (λ e. cc), not_refusal (bytes ++ more) (fault.Opcode got) there' order tt (λ b. b) (λ e. cc))
+    (not_refusal (bytes ++ more) (fault.Length got) there' order (λ b. b) (λ e. cc), not_refusal (bytes ++ more) (fault.Opcode got) there' order (λ b. b) (λ e. cc))
 
 -- A front that is framed says itself how long it is.
 take-framed : (bytes : List ℕ) (k : ℕ) (message : Message) → Framed (take k bytes) message → number_at 0 bytes ≡ length bytes → take k bytes ≡ bytes
@@ -199,7 +226,7 @@ picked false false total n h = absurd cc
 picked false true total n h = (refl, cc)
 
 -- What a header's messageLength is, where it is in its range.
-need_of-Some : (bytes : List ℕ) (n : ℕ) → need_of bytes ≡ Some n → (number_at 0 bytes ≡ n) × (26 ≤ n)
+pub need_of-Some : (bytes : List ℕ) (n : ℕ) → need_of bytes ≡ Some n → (number_at 0 bytes ≡ n) × (26 ≤ n)
 need_of-Some bytes n h =
     let p = picked (ltb (length bytes) 4) (is_length (number_at 0 bytes)) (number_at 0 bytes) n h in
     (p.1, grind (arith, nat_tests, p.0, p.1))

@@ -1,16 +1,17 @@
 -- Documents one after another: what is read is spelled so, and what is spelled so is read; and reading them as a loop does.
 use Rattle.std.proofs.Common.{◌≡◌, ℕ, zero, suc, ◌+◌, ◌-◌, ◌<◌, ◌≤◌, List, [], ◌∷◌, ◌++◌, length, Result, Ok, Err, refl, sym, ap, subst, ◌∙◌, append_assoc, arith, length-append}
 use Rattle.std.proofs.lemmas.List.{append-nil, nil_from_length}
+use Rattle.bson_doc.specs.Steps.{◌>>=◌, Fails}
 use Rattle.bson_doc.specs.declared.value.Document.{Document}
-use Rattle.bson_wire.specs.Reading.{flaw}
-use Rattle.bson_wire.specs.Reading as documents
+use Rattle.bson_doc.proofs.Steps.{bind_ok, mapped-Ok, ok_is, err_ok, Fails-bind}
+use Rattle.bson_doc.specs.wire.Reading.{flaw}
+use Rattle.bson_doc.specs.wire.Reading as documents
 use Rattle.bson_doc.proofs.wire.Outermost.{read_takes, read_again}
 use Rattle.msg_wire.specs.Framing.{AreDocuments}
 use Rattle.msg_wire.specs.Sections.{document_at, documents_at}
-use Rattle.msg_wire.specs.Steps.{◌>>=◌, Fails}
 use Rattle.msg_wire.specs.declared.fault.MsgFault.{MsgFault}
+use Rattle.msg_wire.specs.declared.fault.MsgFault.TheVariants as fault
 use Rattle.msg_wire.proofs.Sizes.{length-Spells}
-use Rattle.msg_wire.proofs.Steps.{bind_ok, mapped_ok, ok_is, err_ok, Fails-bind}
 
 pub document_at-ok : (place : ℕ) (read : documents.Read Document) (x : Document × List ℕ) → document_at place read ≡ Ok x → read ≡ Ok x
 document_at-ok place (Ok y) x h = cc
@@ -22,7 +23,7 @@ documents_take zero end bytes ds e = absurd (err_ok e)
 documents_take (suc fuel) end [] ds e = subst (AreDocuments []) (ok_is [] ds e) refl
 documents_take (suc fuel) end (byte ∷ bytes) ds e =
     let a = bind_ok (document_at (end - length (byte ∷ bytes)) (documents.read (byte ∷ bytes))) (λ first. documents_at fuel end first.1 >>= (λ others. Ok (first.0 ∷ others))) ds e in
-    let b = mapped_ok (λ others. a.0.0 ∷ others) (documents_at fuel end a.0.1) ds a.2 in
+    let b = mapped-Ok (λ others. a.0.0 ∷ others) (documents_at fuel end a.0.1) ds a.2 in
     let t = read_takes (byte ∷ bytes) a.0 (document_at-ok (end - length (byte ∷ bytes)) (documents.read (byte ∷ bytes)) a.0 a.1) in
     subst (AreDocuments (byte ∷ bytes)) b.2 (t.text, a.0.1, t.parts, t.spells, documents_take fuel end a.0.1 b.0 b.1)
 
@@ -64,13 +65,13 @@ goes_on end front (byte ∷ bytes) after d total h lt (suc k, fits, so_far) =
     let one_read : with_front front (documents_at (suc k) end (byte ∷ bytes)) ≡ with_front (front ++ d ∷ []) (documents_at k end after) = rw h (regroup front d (documents_at k end after)) in
     (k, omega arith, sym one_read ∙ so_far)
 
-pub stops : (end : ℕ) (front : List Document) (rest : List ℕ) (e : MsgFault) (total : Result (List Document) MsgFault) → 0 < length rest → Fails e (document_at (end - length rest) (documents.read rest))
-    → GoesOn end front rest total → Fails e total
+pub stops : (end : ℕ) (front : List Document) (rest : List ℕ) (e : MsgFault) (total : Result (List Document) MsgFault) → 0 < length rest → Fails fault.Memory e (document_at (end - length rest) (documents.read rest))
+    → GoesOn end front rest total → Fails fault.Memory e total
 unfolding documents_at
 stops end front rest e total lt h (zero, fits, so_far) = absurd (omega arith)
 stops end front [] e total lt h (suc k, fits, so_far) = absurd (omega arith)
 stops end front (byte ∷ bytes) e total lt h (suc k, fits, so_far) =
-    subst (Fails e) so_far (Fails-bind e _ (λ ds. Ok (front ++ ds)) (Fails-bind e _ (λ first. documents_at k end first.1 >>= (λ others. Ok (first.0 ∷ others))) h))
+    subst (Fails fault.Memory e) so_far (Fails-bind fault.Memory e _ (λ ds. Ok (front ++ ds)) (Fails-bind fault.Memory e _ (λ first. documents_at k end first.1 >>= (λ others. Ok (first.0 ∷ others))) h))
 
 ended : (end : ℕ) (front : List Document) (total : Result (List Document) MsgFault) → GoesOn end front [] total → total ≡ Ok front
 unfolding documents_at

@@ -1,5 +1,5 @@
 -- The bytes of a message that fits are framed.
-use Rattle.std.proofs.Common.{◌≡◌, ◌≤◌, ◌<◌, ◌^◌, ℕ, ℤ, ◌+◌, false, List, [], ◌∷◌, ◌++◌, length, None, FitsSigned, refl, sym, ap, ◌∙◌, subst, arith, length-append}
+use Rattle.std.proofs.Common.{◌≡◌, ◌≤◌, ◌<◌, ◌^◌, ◌-◌, ℕ, ℤ, ◌+◌, min, false, List, [], ◌∷◌, ◌++◌, length, None, FitsSigned, refl, sym, ap, ◌∙◌, subst, arith, length-append}
 use Rattle.std.specs.Int.{w32, cast_signed, cast_unsigned}
 use Rattle.std.proofs.Math.Facts.{Fits-of_z}
 use Rattle.std.proofs.lemmas.Int.{to_z-of_z}
@@ -7,8 +7,8 @@ use Rattle.std.proofs.lemmas.List.{append_assoc, append-nil}
 use Rattle.byteorder.specs.Endian.{little_number}
 use Rattle.byteorder.specs.Numbers.{length-bytes_low_first, little_number-reads_back}
 use Rattle.bson_doc.specs.declared.value.Document.{Document}
-use Rattle.bson_wire.specs.Spelling.{IsNumber32, Spells}
-use Rattle.bson_wire.specs.Spelled.{number32, spelled}
+use Rattle.bson_doc.specs.wire.Spelling.{IsNumber32, Spells}
+use Rattle.bson_doc.specs.wire.Spelled.{number32, spelled}
 use Rattle.msg_wire.specs.Flags.{refused_bit, checksum_size, is_set}
 use Rattle.msg_wire.specs.Framing.{IsSigned, IsHeader, Framed, header, framing, frame, message_of}
 
@@ -100,7 +100,27 @@ pub length-frame : (id to : ℤ) (flags : ℕ) (body : Document) → length (fra
 unfolding frame
 length-frame id to flags body = length-framing id to flags (spelled body)
 
--- What is written of a spelling is the frame where the spelling is the document's one.
-pub frame-spelled : (id to : ℤ) (flags : ℕ) (spelling : List ℕ) (body : Document) → spelling ≡ spelled body → framing id to flags spelling ≡ frame id to flags body
-unfolding frame
-frame-spelled id to flags spelling body h = ap (framing id to flags) h
+-- What stands in front of the document, and the document's one spelling, are the frame.
+pub frame-parts : (id to : ℤ) (flags n : ℕ) (body : Document) → n ≡ length (spelled body) → (header (n + 21) id to ++ number32 flags ++ 0 ∷ []) ++ spelled body ≡ frame id to flags body
+unfolding frame framing
+frame-parts id to flags n body size =
+    ap (λ (k : ℕ). (header (k + 21) id to ++ number32 flags ++ 0 ∷ []) ++ spelled body) size
+    ∙ append_assoc (header (length (spelled body) + 21) id to ++ number32 flags) (0 ∷ []) (spelled body)
+
+-- Of a document that has at most so many bytes as are left in a message, its size is told.
+size-told : (k n : ℕ) → n ≡ min k (2 ^ 64 - 1) → n ≤ 47999979 → n ≡ k
+size-told k n told fits = grind (arith, told)
+
+pub size-fits : (n : ℕ) (body : Document) → n ≡ min (length (spelled body)) (2 ^ 64 - 1) → n ≤ 47999979 → n ≡ length (spelled body)
+size-fits n body told fits = size-told (length (spelled body)) n told fits
+
+size-more : (k n : ℕ) → n ≡ min k (2 ^ 64 - 1) → 47999979 < n → 47999979 < k
+size-more k n told more = grind (arith, told)
+
+-- A document with more makes the message too long.
+pub frame-long : (id to : ℤ) (flags n : ℕ) (body : Document) → n ≡ min (length (spelled body)) (2 ^ 64 - 1) → 47999979 < n → 48000000 < length (frame id to flags body)
+frame-long id to flags n body told more = let k = size-more (length (spelled body)) n told more in omega (arith, length-frame id to flags body)
+
+-- One with no more does not.
+pub frame-fits : (id to : ℤ) (flags n : ℕ) (body : Document) → n ≡ min (length (spelled body)) (2 ^ 64 - 1) → n ≤ 47999979 → length (frame id to flags body) ≤ 48000000
+frame-fits id to flags n body told fits = omega (arith, length-frame id to flags body, size-fits n body told fits)

@@ -1,10 +1,10 @@
 -- What reading a header gives, and what is known from it.
 use Rattle.std.proofs.Common.{◌≡◌, ◌≤◌, ℕ, false, cond, not, eqb, ltb, List, length, Ok, Err, refl, arith}
 use Rattle.std.proofs.lemmas.Bool.Decides.{nat_tests}
+use Rattle.bson_doc.proofs.Steps.{err_or}
 use Rattle.msg_wire.specs.declared.fault.MsgFault.TheVariants as fault
 use Rattle.msg_wire.specs.Fields.{number_at}
 use Rattle.msg_wire.specs.Reading.{is_length, checked_header, header_at}
-use Rattle.msg_wire.proofs.Steps.{guard_ok}
 
 -- A header that is in order: its messageLength is in its range and its opCode is that of OP_MSG.
 pub record InOrder (total code : ℕ) : Type 0 where
@@ -20,16 +20,16 @@ InOrder-from_tests total code a b = record { least = grind (arith, nat_tests); m
 
 pub checked_header-ok : (there total code n : ℕ) → checked_header there total code ≡ Ok n → InOrder total code × (total ≤ there) × (n ≡ total)
 checked_header-ok there total code n h =
-    let a = guard_ok (not (is_length total)) _ _ n h in
-    let b = guard_ok (not (eqb code 2013)) _ _ n a.1 in
-    let c = guard_ok (ltb there total) _ _ n b.1 in
+    let a = err_or (not (is_length total)) _ _ n h in
+    let b = err_or (not (eqb code 2013)) _ _ n a.1 in
+    let c = err_or (ltb there total) _ _ n b.1 in
     (InOrder-from_tests total code a.0 b.0, grind (arith, nat_tests, c.0), cc (c.1))
 
 pub header_at-ok : (bytes : List ℕ) (n : ℕ) → header_at bytes ≡ Ok n
     → InOrder n (number_at 12 bytes) × (n ≤ length bytes) × (n ≡ number_at 0 bytes)
 unfolding header_at
 header_at-ok bytes n h =
-    let a = guard_ok (ltb (length bytes) 16) _ _ n h in
+    let a = err_or (ltb (length bytes) 16) _ _ n h in
     let b = checked_header-ok (length bytes) (number_at 0 bytes) (number_at 12 bytes) n a.1 in
     rw b.2 (b.0, b.1, refl)
 

@@ -8,10 +8,11 @@ pub mod Framings
 mod Headers
 mod Messages
 pub mod Names
+pub mod Partings
+mod PlaceLemmas
 mod Places
 mod SectionLaws
 mod SectionLoop
 mod SequenceLaws
 mod Sizes
-mod Steps
 pub mod Whole

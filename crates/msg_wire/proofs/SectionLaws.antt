@@ -1,14 +1,15 @@
 -- Sections: what is read of them is what they hold, and what they hold is read.
-use Rattle.std.proofs.Common.{◌≡◌, ℕ, zero, suc, ◌-◌, ◌≤◌, ◌<◌, Bool, true, false, ltb, leb, List, [], ◌∷◌, ◌++◌, length, Option, Some, None, is_some, Result, Ok, refl, sym, ap, subst, ◌∙◌, append_assoc, arith, length-append, inl, inr, ◌⊎◌}
+use Rattle.std.proofs.Common.{◌≡◌, ℕ, zero, suc, ◌-◌, ◌≤◌, ◌<◌, Bool, true, false, cond, ltb, leb, List, [], ◌∷◌, ◌++◌, length, Option, Some, None, is_some, Result, Ok, refl, sym, ap, subst, ◌∙◌, append_assoc, arith, length-append, inl, inr, ◌⊎◌}
 use Rattle.std.proofs.lemmas.Bool.{ltb-false, le-ltb}
 use Rattle.std.proofs.lemmas.Bool.Decides.{nat_tests}
+use Rattle.bson_doc.specs.Steps.{◌>>=◌}
 use Rattle.bson_doc.specs.declared.value.Document.{Document}
-use Rattle.bson_wire.specs.Reading.{flaw}
-use Rattle.bson_wire.specs.Reading as documents
+use Rattle.bson_doc.proofs.Steps.{bind_ok, either_ok, err_ok, err_or, mapped-Ok, or_fault-Ok}
+use Rattle.bson_doc.specs.wire.Reading.{flaw}
+use Rattle.bson_doc.specs.wire.Reading as documents
 use Rattle.bson_doc.proofs.wire.Outermost.{read_takes, read_again}
 use Rattle.msg_wire.specs.Framing.{AreSections, AreSequences, IsBody, IsSequence}
 use Rattle.msg_wire.specs.Sections.{Held, closed_at, document_at, section_at, sections_at, sequence_at, with_section}
-use Rattle.msg_wire.specs.Steps.{◌>>=◌}
 use Rattle.msg_wire.specs.declared.fault.MsgFault.{MsgFault}
 use Rattle.msg_wire.specs.declared.section.Section.{Section}
 use Rattle.msg_wire.specs.declared.section.Section.TheVariants as section
@@ -16,7 +17,6 @@ use Rattle.msg_wire.specs.declared.sequence.Sequence.{Sequence}
 use Rattle.msg_wire.proofs.DocumentLists.{document_at-ok}
 use Rattle.msg_wire.proofs.SequenceLaws.{sequence_takes, sequence_again}
 use Rattle.msg_wire.proofs.Sizes.{length-IsBody}
-use Rattle.msg_wire.proofs.Steps.{bind_ok, either_ok, err_ok, guard_ok, mapped_ok, or_fault-Ok}
 
 -- ---- one section
 
@@ -34,8 +34,8 @@ section_takes : (found : Bool) (end : ℕ) (bytes : List ℕ) (x : Section × Li
 unfolding section_at
 section_takes found end [] x e = absurd (err_ok e)
 section_takes found end (zero ∷ rest) x e =
-    let a = guard_ok found _ _ x e in
-    let m = mapped_ok (λ y. (section.Body y.0, y.1)) (document_at (end - length rest) (documents.read rest)) x a.1 in
+    let a = err_or found _ _ x e in
+    let m = mapped-Ok (λ y. (section.Body y.0, y.1)) (document_at (end - length rest) (documents.read rest)) x a.1 in
     let t = read_takes rest m.0 (document_at-ok (end - length rest) (documents.read rest) m.0 m.1) in
     subst (λ (y : Section × List ℕ). TakesSection (0 ∷ rest) y.0 y.1) m.2 (record {
       text = 0 ∷ t.text;
@@ -43,7 +43,7 @@ section_takes found end (zero ∷ rest) x e =
       is = record { spelling = t.text; parts = refl; spells = t.spells };
     })
 section_takes found end (suc zero ∷ rest) x e =
-    let m = mapped_ok (λ y. (section.Sequence y.0, y.1)) (sequence_at end rest) x e in
+    let m = mapped-Ok (λ y. (section.Sequence y.0, y.1)) (sequence_at end rest) x e in
     let t = sequence_takes end rest m.0 m.1 in
     subst (λ (y : Section × List ℕ). TakesSection (1 ∷ rest) y.0 y.1) m.2 (record {
       text = 1 ∷ t.text;
@@ -62,7 +62,7 @@ unfolding section_at
 no_second end [] x e = absurd (err_ok e)
 no_second end (zero ∷ rest) x e = absurd (err_ok e)
 no_second end (suc zero ∷ rest) x e =
-    let m = mapped_ok (λ y. (section.Sequence y.0, y.1)) (sequence_at end rest) x e in
+    let m = mapped-Ok (λ y. (section.Sequence y.0, y.1)) (sequence_at end rest) x e in
     subst (λ (y : Section × List ℕ). IsKind1 y.0) m.2 tt
 no_second end (suc (suc kind) ∷ rest) x e = absurd (err_ok e)
 
@@ -78,10 +78,14 @@ kind1_again found end text rest s is =
 
 -- ---- one section after another
 
+unless_some : {A : Type 0} (b : Bool) (o : Option A) (x : A) → cond b None o ≡ Some x → (b ≡ false) × (o ≡ Some x)
+unless_some true o x h = absurd cc
+unless_some false o x h = (refl, h)
+
 closed-ok : (spare end left : ℕ) (body : Option Document) (d : Document) → closed_at spare end left body ≡ Ok d → (spare ≤ left) × (body ≡ Some d)
 closed-ok spare end left body d e =
-    let a = guard_ok (ltb left spare) _ _ d e in
-    (ltb-false _ _ a.0, or_fault-Ok _ body d a.1)
+    let a = unless_some (ltb left spare) body d (or_fault-Ok _ _ d e) in
+    (ltb-false _ _ a.0, a.1)
 
 pub sections_at-end : (fuel spare end : ℕ) (body : Option Document) (bytes : List ℕ) → length bytes ≤ spare
     → sections_at (suc fuel) spare end body bytes ≡ (closed_at spare end (length bytes) body >>= (λ document. Ok (document, [])))
@@ -112,7 +116,7 @@ unfolding sections_at
 parted fuel spare end body bytes x e = elim (either_ok (leb (length bytes) spare) _ _ x e) [
   | inl closes ↦
       let le : length bytes ≤ spare = grind (arith, nat_tests, closes.0) in
-      let m = mapped_ok (λ document. (document, [])) (closed_at spare end (length bytes) body) x closes.1 in
+      let m = mapped-Ok (λ document. (document, [])) (closed_at spare end (length bytes) body) x closes.1 in
       let c = closed-ok spare end (length bytes) body m.0 m.1 in
       inl (m.0, c.1, omega (arith, le, c.0), sym m.2)
   | inr goes ↦
@@ -132,7 +136,7 @@ after_kind1 : (F : Option Document → List ℕ → Result Held MsgFault) (spare
     → ((rest : List ℕ) (y : Held) → F (Some d) rest ≡ Ok y → After spare rest d y) → TakesSection bytes s.0 s.1 → IsKind1 s.0 → with_section F (Some d) s ≡ Ok x → After spare bytes d x
 after_kind1 F spare d bytes (section.Body b, rest) x others t only e = absurd only
 after_kind1 F spare d bytes (section.Sequence q, rest) x others t only e =
-    let m = mapped_ok (λ y. (y.0, q ∷ y.1)) (F (Some d) rest) x e in
+    let m = mapped-Ok (λ y. (y.0, q ∷ y.1)) (F (Some d) rest) x e in
     let a = others rest m.0 m.1 in
     subst (After spare bytes d) m.2 (record {
       text = t.text ++ a.text;
@@ -205,7 +209,7 @@ takes_with : (fuel spare end : ℕ) (bytes : List ℕ) (s : Section × List ℕ)
     → ((rest : List ℕ) (y : Held) → sections_at fuel spare end None rest ≡ Ok y → TakesSections spare rest y) → TakesSection bytes s.0 s.1 → with_section (sections_at fuel spare end) None s ≡ Ok x → TakesSections spare bytes x
 takes_with fuel spare end bytes (section.Body b, rest) x others t e = takes_body spare bytes rest b x t (after_takes fuel spare end b rest x e)
 takes_with fuel spare end bytes (section.Sequence q, rest) x others t e =
-    let m = mapped_ok (λ y. (y.0, q ∷ y.1)) (sections_at fuel spare end None rest) x e in
+    let m = mapped-Ok (λ y. (y.0, q ∷ y.1)) (sections_at fuel spare end None rest) x e in
     subst (TakesSections spare bytes) m.2 (takes_kind1 spare bytes rest q m.0 t (others rest m.0 m.1))
 
 pub sections_take : (fuel spare end : ℕ) (bytes : List ℕ) (x : Held) → sections_at fuel spare end None bytes ≡ Ok x → TakesSections spare bytes x

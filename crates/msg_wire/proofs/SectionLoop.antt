@@ -1,14 +1,15 @@
 -- Reading sections one after the other, as a loop does.
 use Rattle.std.proofs.Common.{◌≡◌, ℕ, zero, suc, ◌<◌, ◌≤◌, List, [], ◌∷◌, ◌++◌, length, Option, Some, None, is_some, Result, Ok, Err, refl, sym, ap, subst, ◌∙◌, append_assoc, arith}
 use Rattle.std.proofs.lemmas.List.{append-nil}
+use Rattle.bson_doc.specs.Steps.{◌>>=◌, Fails}
 use Rattle.bson_doc.specs.declared.value.Document.{Document}
+use Rattle.bson_doc.proofs.Steps.{Fails-bind, bind-Ok}
 use Rattle.msg_wire.specs.Sections.{Held, closed_at, section_at, sections_at, with_section}
-use Rattle.msg_wire.specs.Steps.{◌>>=◌, Fails}
 use Rattle.msg_wire.specs.declared.fault.MsgFault.{MsgFault}
+use Rattle.msg_wire.specs.declared.fault.MsgFault.TheVariants as fault
 use Rattle.msg_wire.specs.declared.section.Section.TheVariants as section
 use Rattle.msg_wire.specs.declared.sequence.Sequence.{Sequence}
 use Rattle.msg_wire.proofs.SectionLaws.{sections_at-end, sections_at-more}
-use Rattle.msg_wire.proofs.Steps.{Fails-bind, bind-Ok}
 
 abbrev pub with_front : List Sequence → Result Held MsgFault → Result Held MsgFault
 with_front front read = read >>= (λ x. Ok (x.0, front ++ x.1))
@@ -43,11 +44,11 @@ goes_on_kind1 spare end body front rest after s total lt h less (suc k, fits, so
 
 -- a fault in the next section
 pub stops : (spare end : ℕ) (body : Option Document) (front : List Sequence) (rest : List ℕ) (e : MsgFault) (total : Result Held MsgFault)
-    → spare < length rest → Fails e (section_at (is_some body) end rest) → GoesOn spare end body front rest total → Fails e total
+    → spare < length rest → Fails fault.Memory e (section_at (is_some body) end rest) → GoesOn spare end body front rest total → Fails fault.Memory e total
 stops spare end body front rest e total lt h (zero, fits, so_far) = absurd (omega arith)
 stops spare end body front rest e total lt h (suc k, fits, so_far) =
     let one_read : with_front front (section_at (is_some body) end rest >>= with_section (sections_at k spare end) body) ≡ total = ap (with_front front) (sym (sections_at-more k spare end body rest lt)) ∙ so_far in
-    subst (Fails e) one_read (Fails-bind e _ (λ x. Ok (x.0, front ++ x.1)) (Fails-bind e _ (with_section (sections_at k spare end) body) h))
+    subst (Fails fault.Memory e) one_read (Fails-bind fault.Memory e _ (λ x. Ok (x.0, front ++ x.1)) (Fails-bind fault.Memory e _ (with_section (sections_at k spare end) body) h))
 
 -- the end of the sections
 pub closes : (spare end : ℕ) (body : Option Document) (front : List Sequence) (rest : List ℕ) (d : Document) (total : Result Held MsgFault)
@@ -60,8 +61,8 @@ closes spare end body front rest d total le h (suc k, fits, so_far) =
 
 -- a fault at the end of the sections
 pub does_not_close : (spare end : ℕ) (body : Option Document) (front : List Sequence) (rest : List ℕ) (e : MsgFault) (total : Result Held MsgFault)
-    → length rest ≤ spare → Fails e (closed_at spare end (length rest) body) → GoesOn spare end body front rest total → Fails e total
+    → length rest ≤ spare → Fails fault.Memory e (closed_at spare end (length rest) body) → GoesOn spare end body front rest total → Fails fault.Memory e total
 does_not_close spare end body front rest e total le h (zero, fits, so_far) = absurd (omega arith)
 does_not_close spare end body front rest e total le h (suc k, fits, so_far) =
     let one_read : with_front front (closed_at spare end (length rest) body >>= (λ document. Ok (document, []))) ≡ total = ap (with_front front) (sym (sections_at-end k spare end body rest le)) ∙ so_far in
-    subst (Fails e) one_read (Fails-bind e _ (λ x. Ok (x.0, front ++ x.1)) (Fails-bind e _ (λ document. Ok (document, [])) h))
+    subst (Fails fault.Memory e) one_read (Fails-bind fault.Memory e _ (λ x. Ok (x.0, front ++ x.1)) (Fails-bind fault.Memory e _ (λ document. Ok (document, [])) h))

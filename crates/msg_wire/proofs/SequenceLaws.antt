@@ -2,15 +2,15 @@
 use Rattle.std.proofs.Common.{◌≡◌, ℕ, ◌+◌, ◌-◌, ◌≤◌, false, ltb, ◌||◌, List, [], ◌∷◌, ◌++◌, length, take, drop, Ok, refl, sym, ap, subst, ◌∙◌, append_assoc, arith, length-append}
 use Rattle.std.proofs.lemmas.Bool.{ltb-false, le-ltb, or_parts, or_from}
 use Rattle.std.proofs.lemmas.List.{take_at, drop_at, take-append-drop, length-take-le}
+use Rattle.bson_doc.specs.Steps.{◌>>=◌}
+use Rattle.bson_doc.proofs.Steps.{bind_ok, err_or, mapped-Ok, ok_is}
 use Rattle.msg_wire.specs.Fields.{number_at}
 use Rattle.msg_wire.specs.Framing.{IsSequence}
 use Rattle.msg_wire.specs.Sections.{documents_at, name_at, sequence_at, size_at}
-use Rattle.msg_wire.specs.Steps.{◌>>=◌}
 use Rattle.msg_wire.specs.declared.sequence.Sequence.{Sequence}
 use Rattle.msg_wire.proofs.DocumentLists.{documents_take, documents_again}
 use Rattle.msg_wire.proofs.Names.{name_takes, name_again}
 use Rattle.msg_wire.proofs.Places.{number_at-field, number_at-take, number-field_at}
-use Rattle.msg_wire.proofs.Steps.{bind_ok, guard_ok, mapped_ok, ok_is}
 
 record IsSize (bytes : List ℕ) (n : ℕ) : Type 0 where
   number : number_at 0 bytes ≡ n
@@ -20,8 +20,8 @@ record IsSize (bytes : List ℕ) (n : ℕ) : Type 0 where
 size_takes : (at : ℕ) (bytes : List ℕ) (n : ℕ) → size_at at bytes ≡ Ok n → IsSize bytes n
 unfolding size_at
 size_takes at bytes n e =
-    let a = guard_ok (ltb (length bytes) 4) _ _ n e in
-    let b = guard_ok (ltb (number_at 0 bytes) 5 || ltb (length bytes) (number_at 0 bytes)) _ _ n a.1 in
+    let a = err_or (ltb (length bytes) 4) _ _ n e in
+    let b = err_or (ltb (number_at 0 bytes) 5 || ltb (length bytes) (number_at 0 bytes)) _ _ n a.1 in
     let tests = or_parts (ltb (number_at 0 bytes) 5) (ltb (length bytes) (number_at 0 bytes)) b.0 in
     let same : number_at 0 bytes ≡ n = ok_is (number_at 0 bytes) n b.1 in
     record {
@@ -53,7 +53,7 @@ sequence_takes end bytes x e =
     let b = bind_ok (name_at at (drop 4 inside)) (λ named. documents_at n (end - length (drop n bytes)) named.1 >>= (λ docs. Ok (record { name = named.0; docs = docs }, drop n bytes))) x a.2 in
     let name : List ℕ = b.0.0 in
     let contents : List ℕ = b.0.1 in
-    let c = mapped_ok (λ docs. (record { name = name; docs = docs }, drop n bytes)) (documents_at n (end - length (drop n bytes)) contents) x b.2 in
+    let c = mapped-Ok (λ docs. (record { name = name; docs = docs }, drop n bytes)) (documents_at n (end - length (drop n bytes)) contents) x b.2 in
     let is_size = size_takes at bytes n a.1 in
     let least : 5 ≤ n = is_size.least in
     let there : n ≤ length bytes = is_size.there in

@@ -1,7 +1,7 @@
 -- How many bytes documents and sections have at least.
 use Rattle.std.proofs.Common.{◌≤◌, ℕ, List, [], ◌∷◌, ◌++◌, length, ap, ◌∙◌, arith, length-append}
 use Rattle.bson_doc.specs.declared.value.Document.{Document}
-use Rattle.bson_wire.specs.Spelling.{IsDocument, Spells, SpellsWithin}
+use Rattle.bson_doc.specs.wire.Spelling.{IsDocument, Spells, SpellsWithin}
 use Rattle.msg_wire.specs.Framing.{AreSections, IsBody}
 use Rattle.msg_wire.specs.declared.sequence.Sequence.{Sequence}
 

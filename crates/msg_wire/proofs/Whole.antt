@@ -2,12 +2,13 @@
 use Rattle.std.proofs.Common.{◌≡◌, ◌≤◌, ◌<◌, ℕ, false, ltb, List, [], ◌++◌, length, take, drop, Some, None, Option, Result, Ok, Err, refl, sym, ap, ◌∙◌, subst, arith, length-append}
 use Rattle.std.proofs.lemmas.List.{append-nil, take_at, take-append-drop, length-drop, length-take-le, nil_from_length}
 use Rattle.std.proofs.lemmas.Bool.Decides.{nat_tests}
+use Rattle.bson_doc.specs.Steps.{fault_of}
+use Rattle.bson_doc.proofs.Steps.{bind_ok}
 use Rattle.msg_wire.specs.Fields.{number_at, signed_at}
 use Rattle.msg_wire.specs.Flags.{refused_bit, checksum_size}
 use Rattle.msg_wire.specs.Framing.{Framed}
 use Rattle.msg_wire.specs.Reading.{checked_flags, header_at, message_at, read, flaw}
 use Rattle.msg_wire.specs.Sections.{sections_at}
-use Rattle.msg_wire.specs.Steps.{fault_of}
 use Rattle.msg_wire.specs.declared.fault.MsgFault.{MsgFault}
 use Rattle.msg_wire.specs.declared.message.Message.{Message}
 use Rattle.msg_wire.proofs.ByPlaces.{FramedByPlaces, FramedByPlaces-from_Framed, Framed-from_places}
@@ -15,7 +16,6 @@ use Rattle.msg_wire.proofs.Headers.{InOrder, header_at-ok, header_at-whole}
 use Rattle.msg_wire.proofs.Messages.{message_at-parts}
 use Rattle.msg_wire.proofs.Places.{number_at-append, number_at-take}
 use Rattle.msg_wire.proofs.SectionLaws.{sections_take, sections_again}
-use Rattle.msg_wire.proofs.Steps.{bind_ok}
 
 checked_flags-ok : (flags : ℕ) (refused : Option ℕ) (n : ℕ) → checked_flags flags refused ≡ Ok n → (refused ≡ None) × (flags ≡ n)
 checked_flags-ok flags None n h = (refl, cc)

@@ -4,9 +4,10 @@ use Rattle.std.specs.Prelude.{◌≡◌, ℕ, ℤ, ◌+◌, ◌≤◌, List, [],
 use Rattle.std.specs.Int.{w32, cast_signed, cast_unsigned}
 use Rattle.byteorder.specs.Endian.{little_number}
 use Rattle.bson_doc.specs.declared.value.Document.{Document}
-use Rattle.bson_wire.specs.Spelling.{IsNumber32, IsName, Spells}
-use Rattle.bson_wire.specs.Spelled.{number32, spelled}
+use Rattle.bson_doc.specs.wire.Spelling.{IsNumber32, IsName, Spells}
+use Rattle.bson_doc.specs.wire.Spelled.{number32, spelled}
 use Rattle.msg_wire.specs.Flags.{refused_bit, checksum_size}
+use Rattle.msg_wire.specs.Limits.{most_message, op_msg}
 use Rattle.msg_wire.specs.declared.message.Message.{Message}
 use Rattle.msg_wire.specs.declared.sequence.Sequence.{Sequence}
 
@@ -26,7 +27,7 @@ pub record IsHeader (bytes : List ℕ) (total : ℕ) (id to : ℤ) : Type 0 wher
   pub is_total : IsNumber32 total_field total
   pub is_id : IsSigned id_field id
   pub is_to : IsSigned to_field to
-  pub is_code : IsNumber32 code_field 2013
+  pub is_code : IsNumber32 code_field op_msg
 
 -- A section of kind 0: the byte 00 and one document (MongoDB wire protocol, OP_MSG, Sections, Kind 0: Body).
 pub record IsBody (bytes : List ℕ) (document : Document) : Type 0 where
@@ -85,11 +86,11 @@ pub record Framed (bytes : List ℕ) (message : Message) : Type 0 where
   pub are_sections : AreSections sections message.body message.sequences
   pub is_checksum : length checksum ≡ checksum_size message.flags
   pub counted : message.length ≡ length bytes
-  pub size : length bytes ≤ 48000000
+  pub size : length bytes ≤ most_message
 
 -- The header of a message of so many bytes (MongoDB wire protocol, Standard Message Header).
 unfoldable pub header : ℕ → ℤ → ℤ → List ℕ
-header total id to = number32 total ++ number32 (cast_unsigned w32 id) ++ number32 (cast_unsigned w32 to) ++ number32 2013
+header total id to = number32 total ++ number32 (cast_unsigned w32 id) ++ number32 (cast_unsigned w32 to) ++ number32 op_msg
 
 -- The header, flagBits, and one section of kind 0 with these bytes of a document (MongoDB wire protocol, OP_MSG). In
 -- front of them stand 21 bytes.

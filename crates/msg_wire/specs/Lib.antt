@@ -2,6 +2,10 @@ pub mod Asking
 pub mod Fields
 pub mod Flags
 pub mod Framing
+pub mod Fronts
+pub mod Limits
+pub mod Messages
+pub mod Places
 pub mod Reading
 pub mod Sections
 pub mod Steps

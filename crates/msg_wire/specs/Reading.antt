@@ -2,18 +2,19 @@
 -- faults, their order and their places are own).
 use Rattle.std.specs.Prelude.{ℕ, Bool, not, ◌&&◌, ◌==◌, List, length, take, drop, Option, Some, None, Result, Ok, Err, nat_lt, nat_le, if◌then◌else◌}
 use Rattle.std.specs.Int.{w32, cast_signed}
+use Rattle.bson_doc.specs.Steps.{◌>>=◌, fault_of}
 pub use Rattle.msg_wire.specs.Fields.{number_at, signed_at}
 use Rattle.msg_wire.specs.Flags.{refused_bit, checksum_size}
+use Rattle.msg_wire.specs.Limits.{least_message, most_message, op_msg}
 use Rattle.msg_wire.specs.Sections.{sections_at}
-use Rattle.msg_wire.specs.Steps.{◌>>=◌, fault_of}
 use Rattle.msg_wire.specs.declared.fault.MsgFault.{MsgFault}
 use Rattle.msg_wire.specs.declared.fault.MsgFault.TheVariants as fault
 use Rattle.msg_wire.specs.declared.message.Message.{Message}
 
--- A message has from 26 to 48,000,000 bytes (own: the standard lets the server name the most). A negative number has
--- the highest bit of its four bytes set, so as a number without a sign it is above them.
+-- The length of a message is in its range. A negative number has the highest bit of its four bytes set, so as a number
+-- without a sign it is above the range.
 abbrev pub is_length : ℕ → Bool
-is_length n = nat_le 26 n && nat_le n 48000000
+is_length n = nat_le least_message n && nat_le n most_message
 
 -- The messageLength at the front of the bytes, where it is there and in its range.
 abbrev pub need_of : List ℕ → Option ℕ
@@ -27,7 +28,7 @@ need_of bytes =
 abbrev pub checked_header : ℕ → ℕ → ℕ → Result ℕ MsgFault
 checked_header there total code =
     if not (is_length total) then Err (fault.Length (cast_signed w32 total)) else
-    if not (code == 2013) then Err (fault.Opcode (cast_signed w32 code)) else
+    if not (code == op_msg) then Err (fault.Opcode (cast_signed w32 code)) else
     if nat_lt there total then Err (fault.Short total) else
     Ok total
 

@@ -2,15 +2,16 @@
 -- OP_MSG, Sections; the faults, their order and their places are own). A reader is given `end`, the place where its bytes
 -- end, so that what is left begins at `end - length bytes`. Its fuel counts what it reads, of which each takes a byte at
 -- least; it is more than the bytes, so the case without fuel is never reached, and what it answers is not seen.
-use Rattle.std.specs.Prelude.{ℕ, zero, suc, ◌-◌, Bool, ◌||◌, List, [], ◌∷◌, length, take, drop, Option, Some, is_some, Result, Ok, Err, nat_lt, nat_le, if◌then◌else◌}
+use Rattle.std.specs.Prelude.{ℕ, zero, suc, ◌-◌, Bool, ◌||◌, List, [], ◌∷◌, length, take, drop, Option, Some, None, is_some, Result, Ok, Err, nat_lt, nat_le, if◌then◌else◌}
 use Rattle.std.specs.Str.{is_utf8}
+use Rattle.bson_doc.specs.Steps.{◌>>=◌, or_fault}
 use Rattle.bson_doc.specs.declared.value.Document.{Document}
 use Rattle.bson_doc.specs.declared.bson_fault.BsonFault.{BsonFault}
 use Rattle.bson_doc.specs.declared.bson_fault.BsonFault.TheVariants as bson_fault
-use Rattle.bson_wire.specs.Reading.{until_zero}
-use Rattle.bson_wire.specs.Reading as documents
+use Rattle.bson_doc.specs.wire.Reading.{until_zero}
+use Rattle.bson_doc.specs.wire.Reading as documents
 use Rattle.msg_wire.specs.Fields.{number_at}
-use Rattle.msg_wire.specs.Steps.{◌>>=◌, Read, or_fault}
+use Rattle.msg_wire.specs.Steps.{Read}
 use Rattle.msg_wire.specs.declared.fault.MsgFault.{MsgFault}
 use Rattle.msg_wire.specs.declared.fault.MsgFault.TheVariants as fault
 use Rattle.msg_wire.specs.declared.section.Section.{Section}
@@ -78,11 +79,10 @@ section_at found end (suc (suc kind) ∷ rest) = Err (fault.Sections (end - leng
 abbrev pub Held : Type 0
 Held = Document × List Sequence
 
--- The body, where the sections ended with so many bytes left, of which `spare` are the checksum's. Where fewer are left
--- the fault is at the message's end; where there is no body it is where the sections ended.
+-- The body, where the sections ended with so many bytes left, of which `spare` are the checksum's. Without a body, or
+-- where fewer are left than the checksum has, the fault is where the sections ended.
 abbrev pub closed_at : ℕ → ℕ → ℕ → Option Document → Result Document MsgFault
-closed_at spare end left body =
-    if nat_lt left spare then Err (fault.Sections end) else or_fault (fault.Sections (end - left)) body
+closed_at spare end left body = or_fault (fault.Sections (end - left)) (if nat_lt left spare then None else body)
 
 -- What the sections hold from one that was read on. `others` reads those behind it.
 abbrev pub with_section : (Option Document → List ℕ → Result Held MsgFault) → Option Document → Section × List ℕ → Result Held MsgFault

@@ -3,7 +3,7 @@
 ghost use Rattle.std.specs.Prelude.{ℕ, ◌≡◌, ◌≤◌, ◌+◌, ◌-◌, ◌<◌, length, IfOk};
 ghost use Rattle.msg_wire.specs.Sections.{body_fault, document_at, documents_at};
 ghost use Rattle.msg_wire.specs.Steps.{Gives};
-ghost use Rattle.bson_wire.specs.Reading as documents;
+ghost use Rattle.bson_doc.specs.wire.Reading as documents;
 
 use crate::MsgFault;
 use bson_doc::{Document, Rows};

@@ -1,5 +1,8 @@
-ghost use Rattle.std.specs.Prelude.{◌≡◌};
+ghost use Rattle.std.specs.Prelude.{◌≡◌, IsSome};
+ghost use Rattle.msg_wire.specs.Fronts.{IsRefusal};
+ghost use Rattle.msg_wire.specs.Places.{place_of};
 
+use crate::limits::{FLAG_BITS, MESSAGE_LENGTH, OP_CODE};
 use bson_wire::BsonFault;
 use std::alloc::AllocError;
 use thiserror::Error;
@@ -20,8 +23,8 @@ pub enum MsgFault {
     #[error("the flag bit {bit} is not known")]
     Flags { bit: u32 },
     /// The sections are out of order at the place: the first byte of a section of another kind than 0 and 1, of a second
-    /// one of kind 0, or of one of kind 1 whose size or name does not fit; where the sections end without one of kind 0;
-    /// or the message's end, where fewer than four bytes are left for the checksum.
+    /// one of kind 0, or of one of kind 1 whose size or name does not fit; or where the sections end, without one of kind
+    /// 0, or with fewer than four bytes left for the checksum.
     #[error("the sections are out of order at {at}")]
     Sections { at: u32 },
     /// The document at the place does not read. The place in its fault counts from the document's front, and the fault
@@ -31,6 +34,23 @@ pub enum MsgFault {
     /// There is not enough memory.
     #[error("out of memory")]
     Memory,
+}
+
+impl MsgFault {
+    /// The place in the message that the fault names: that of messageLength, of opCode or of flagBits, else the one that
+    /// it tells. That bytes or memory are wanting has none.
+    pub fn place(self) -> Option<u32>
+        ensures place { result ≡ place_of self }
+        ensures found { IsRefusal self → IsSome result }
+    {
+        match self {
+            MsgFault::Short { .. } | MsgFault::Memory => None,
+            MsgFault::Length { .. } => Some(MESSAGE_LENGTH as u32),
+            MsgFault::Opcode { .. } => Some(OP_CODE as u32),
+            MsgFault::Flags { .. } => Some(FLAG_BITS as u32),
+            MsgFault::Sections { at } | MsgFault::Body { at, .. } => Some(at),
+        }
+    }
 }
 
 impl From<AllocError> for MsgFault {

@@ -3,7 +3,9 @@
 /// How many bytes a header has.
 pub const HEADER: usize = 16;
 
-/// The places of the fields behind messageLength, and of the sections.
+/// The places of the header's fields, of flagBits, and of the sections.
+pub const MESSAGE_LENGTH: usize = 0;
+
 pub const REQUEST_ID: usize = 4;
 
 pub const RESPONSE_TO: usize = 8;
@@ -22,6 +24,9 @@ pub const LEAST_BYTES: u32 = 26;
 
 /// The greatest length of a message.
 pub const MOST_BYTES: u32 = 48_000_000;
+
+/// The greatest length of the document of a message that has one section alone.
+pub const MOST_SPELLING: u64 = MOST_BYTES as u64 - FRONT as u64;
 
 /// The opCode of OP_MSG.
 pub const OP_MSG: u32 = 2013;

@@ -1,9 +1,11 @@
-ghost use Rattle.std.specs.Prelude.{◌≡◌, ◌≢◌, ◌≤◌, ℕ, List, ◌++◌, length, take, Some, None, IfOk, IfErr, OnOk, Err, MatchResult};
+ghost use Rattle.std.specs.Prelude.{◌≡◌, ◌≢◌, ◌≤◌, ℕ, List, ◌++◌, length, take, Some, None, IfOk, IfErr, OnOk, Ok, Err, MatchResult};
 ghost use Rattle.msg_wire.specs.declared.message.Message.{Message};
 ghost use Rattle.msg_wire.specs.declared.fault.MsgFault.{MsgFault};
 ghost use Rattle.msg_wire.specs.Asking.{IsWhole};
 ghost use Rattle.msg_wire.specs.Framing.{Framed};
-ghost use Rattle.msg_wire.specs.Reading.{header_at, checked_flags, message_at, need_of, flaw};
+ghost use Rattle.msg_wire.specs.Limits.{least_message, most_message};
+ghost use Rattle.msg_wire.specs.Places.{flag_bits_at};
+ghost use Rattle.msg_wire.specs.Reading.{number_at, header_at, checked_flags, message_at, need_of, flaw};
 ghost use Rattle.msg_wire.specs.Reading as spec;
 ghost use Rattle.msg_wire.specs.Steps.{Gives};
 ghost use Rattle.msg_wire.specs.Flags.{refused_bit};
@@ -29,7 +31,7 @@ pub fn need(bytes: &[u8]) -> Option<u32>
     (LEAST_BYTES..=MOST_BYTES).contains(&total).then_some(total)
 }
 
-/// Reads the message at the front of the bytes. Bytes behind it do not matter ([`settled`](crate::settled)), and a header
+/// Reads the message at the front of the bytes. Bytes behind it do not matter ([`settled`](crate::laws::settled)), and a header
 /// that is out of order is refused before more than its 16 bytes are there.
 pub fn read(alloc: Global, bytes: &[u8]) -> Result<Message, MsgFault>
     // What is read is framed so.
@@ -50,8 +52,11 @@ pub fn read(alloc: Global, bytes: &[u8]) -> Result<Message, MsgFault>
     ensures whole { IsWhole bytes.now
         → MatchResult result (λ m. Framed bytes.now m) (λ e. (n : ℕ) → e ≢ MsgFault.Short n) }
 
-    // What is wrong with the header, or that bytes are missing, is answered whatever the memory.
+    // What is wrong with the header, that bytes are missing, or that a flag is refused, is answered whatever the memory.
     ensures header { (e : MsgFault) → header_at bytes.now ≡ Err e → result ≡ Err e }
+    ensures flags { (total bit : ℕ)
+        → header_at bytes.now ≡ Ok total → refused_bit (number_at flag_bits_at bytes.now) ≡ Some bit
+        → result ≡ Err (MsgFault.Flags bit) }
 {
     whole(alloc, bytes)
 }
@@ -60,6 +65,9 @@ pub fn read(alloc: Global, bytes: &[u8]) -> Result<Message, MsgFault>
 fn whole(alloc: Global, bytes: &[u8]) -> Result<Message, MsgFault>
     ensures gives { Gives (λ m. m) result (spec.read bytes.now) }
     ensures header { (e : MsgFault) → header_at bytes.now ≡ Err e → result ≡ Err e }
+    ensures flags { (total bit : ℕ)
+        → header_at bytes.now ≡ Ok total → refused_bit (number_at flag_bits_at bytes.now) ≡ Some bit
+        → result ≡ Err (MsgFault.Flags bit) }
 {
     let total = header_of(bytes)?;
     message_of(alloc, &bytes[..total as usize])
@@ -70,8 +78,8 @@ fn header_of(bytes: &[u8]) -> Result<u32, MsgFault>
     ensures gives { Gives (λ n. n) result (header_at bytes.now) }
     ensures exact { result ≡ header_at bytes.now }
     ensures whole { IfOk result (λ n. n ≤ length bytes.now) }
-    ensures least { IfOk result (λ n. 26 ≤ n) }
-    ensures most { IfOk result (λ n. n ≤ 48000000) }
+    ensures least { IfOk result (λ n. least_message ≤ n) }
+    ensures most { IfOk result (λ n. n ≤ most_message) }
 {
     if bytes.len() < HEADER {
         return Err(MsgFault::Short {
@@ -98,9 +106,11 @@ fn header_of(bytes: &[u8]) -> Result<u32, MsgFault>
 
 #[tactic(auto, unfolding(crate::specs::Reading::message_at))]
 fn message_of(alloc: Global, bytes: &[u8]) -> Result<Message, MsgFault>
-    requires least { 26 ≤ length bytes.now }
-    requires most { length bytes.now ≤ 48000000 }
-    ensures { Gives (λ m. m) result (message_at bytes.now) }
+    requires least { least_message ≤ length bytes.now }
+    requires most { length bytes.now ≤ most_message }
+    ensures gives { Gives (λ m. m) result (message_at bytes.now) }
+    ensures flags { (bit : ℕ) → refused_bit (number_at flag_bits_at bytes.now) ≡ Some bit
+        → result ≡ Err (MsgFault.Flags bit) }
 {
     let flags = flags_of(number(bytes, FLAG_BITS))?;
     let length = bytes.len() as u32;
@@ -121,7 +131,8 @@ fn message_of(alloc: Global, bytes: &[u8]) -> Result<Message, MsgFault>
 }
 
 fn flags_of(flags: u32) -> Result<u32, MsgFault>
-    ensures { Gives (λ n. n) result (checked_flags flags (refused_bit flags)) }
+    ensures gives { Gives (λ n. n) result (checked_flags flags (refused_bit flags)) }
+    ensures exact { result ≡ checked_flags flags (refused_bit flags) }
 {
     match refused_bit_of(flags) {
         Some(bit) => Err(MsgFault::Flags { bit }),

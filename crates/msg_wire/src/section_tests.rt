@@ -212,17 +212,17 @@ fn judges_the_end(rt: HostRuntime) -> Result<(), Fail> {
             &[1, 5, 0, 0, 0, 0, 1, 5, 0, 0, 0, 0],
             Some(MsgFault::Sections { at: 32 }),
         ),
-        // A checksum, whole and cut.
+        // A checksum, whole and cut: the sections end where it begins.
         (1, &[0, 5, 0, 0, 0, 0, 9, 9, 9, 9], None),
         (
             1,
             &[0, 5, 0, 0, 0, 0, 9, 9, 9],
-            Some(MsgFault::Sections { at: 29 }),
+            Some(MsgFault::Sections { at: 26 }),
         ),
         (
             1,
             &[0, 5, 0, 0, 0, 0, 9],
-            Some(MsgFault::Sections { at: 27 }),
+            Some(MsgFault::Sections { at: 26 }),
         ),
         (1, &[0, 5, 0, 0, 0, 0], Some(MsgFault::Sections { at: 26 })),
         // A byte more than a checksum begins a section.
@@ -245,13 +245,13 @@ fn judges_the_end(rt: HostRuntime) -> Result<(), Fail> {
         (
             1,
             &[1, 5, 0, 0, 0, 0, 9, 9, 9],
-            Some(MsgFault::Sections { at: 29 }),
+            Some(MsgFault::Sections { at: 26 }),
         ),
         // Sections that leave too little for a checksum, and a document that passes the message's end.
         (
             1,
             &[0, 9, 0, 0, 0, 8, b'a', 0, 1, 0, 9, 9],
-            Some(MsgFault::Sections { at: 32 }),
+            Some(MsgFault::Sections { at: 30 }),
         ),
         (
             1,

@@ -75,13 +75,12 @@ fn closed_of(
     requires { left ≤ end }
     ensures { Gives (λ x. x) result (closed_at spare end left body) }
 {
+    let at = end - left as u32;
     if left < spare {
-        return Err(MsgFault::Sections { at: end });
+        return Err(MsgFault::Sections { at });
     }
     match body {
         Some(document) => Ok(document),
-        None => Err(MsgFault::Sections {
-            at: end - left as u32,
-        }),
+        None => Err(MsgFault::Sections { at }),
     }
 }

@@ -1,19 +1,21 @@
-ghost use Rattle.std.specs.Prelude.{◌≡◌, ◌+◌, ◌≤◌, ◌<◌, ◌++◌, length, false, None, Err, IfOk, OnOk, IfErr};
+ghost use Rattle.std.specs.Prelude.{◌≡◌, ◌+◌, ◌≤◌, ◌<◌, [], ◌∷◌, ◌++◌, length, false, None, Err, IfOk, OnOk, IfErr};
 ghost use Rattle.std.specs.Int.{w32, cast_unsigned};
 ghost use Rattle.bson_doc.specs.Documents.{depth_of};
-ghost use Rattle.bson_wire.specs.Spelled.{number32};
+ghost use Rattle.bson_doc.specs.wire.Limits.{most_levels};
+ghost use Rattle.bson_doc.specs.wire.Spelled.{number32};
 ghost use Rattle.msg_wire.specs.Flags.{refused_bit, is_set};
-ghost use Rattle.msg_wire.specs.Framing.{Framed, frame, framing, header, message_of};
+ghost use Rattle.msg_wire.specs.Framing.{Framed, frame, header, message_of};
+ghost use Rattle.msg_wire.specs.Limits.{most_message};
 
-use crate::limits::{FRONT, MOST_BYTES, OP_MSG};
+use crate::limits::{FRONT, MOST_SPELLING, OP_MSG};
 use bson_doc::{Bytes, Document, Memory};
-use bson_wire::{EncodeFault, encode};
+use bson_wire::{EncodeFault, MOST_LEVELS, append, size};
 use byteorder::{ByteOrder, LittleEndian};
 use std::alloc::Global;
 
 /// The bytes of a message with one section of kind 0, whose requestID is `id` and whose responseTo is `to`.
 ///
-/// Flag bit 0 and bits 2 to 15 must be clear. `Long` speaks of the whole message.
+/// Flag bit 0 and bits 2 to 15 must be clear. `Long` speaks of the whole message. Memory is taken once, for all of it.
 pub fn write(
     alloc: Global,
     id: i32,
@@ -26,37 +28,40 @@ pub fn write(
     ensures ok { IfOk result (λ bytes. bytes ≡ frame id to flags body.now) }
     ensures framed { IfOk result (λ bytes. Framed bytes (message_of id to flags body.now)) }
 
-    // Each fault comes exactly where the document has it, unless memory runs out. A document with too many levels is
-    // refused whatever the memory.
+    // Each fault comes exactly where the document has it, and is answered whatever the memory.
     ensures fits { OnOk result
-        ((depth_of body.now ≤ 100) × (length (frame id to flags body.now) ≤ 48000000)) }
-    ensures levels { 100 < depth_of body.now → result ≡ Err EncodeFault.Deep }
-    ensures deep { IfErr result (λ e. e ≡ EncodeFault.Deep → 100 < depth_of body.now) }
+        ((depth_of body.now ≤ most_levels) × (length (frame id to flags body.now) ≤ most_message)) }
+    ensures levels { most_levels < depth_of body.now → result ≡ Err EncodeFault.Deep }
+    ensures deep { IfErr result (λ e. e ≡ EncodeFault.Deep → most_levels < depth_of body.now) }
+    ensures size { depth_of body.now ≤ most_levels → most_message < length (frame id to flags body.now)
+        → result ≡ Err EncodeFault.Long }
     ensures long { IfErr result
         (λ e. e ≡ EncodeFault.Long
-        → (depth_of body.now ≤ 100) × (48000000 < length (frame id to flags body.now))) }
+        → (depth_of body.now ≤ most_levels) × (most_message < length (frame id to flags body.now))) }
 {
-    let spelling = encode(alloc, body)?;
-    if FRONT + spelling.len() > MOST_BYTES as usize {
+    if body.depth() > MOST_LEVELS {
+        return Err(EncodeFault::Deep);
+    }
+    let spelling = size(body);
+    if spelling > MOST_SPELLING {
         return Err(EncodeFault::Long);
     }
-    let bytes = framing_of(alloc, id, to, flags, spelling.as_slice())?;
-    Ok(bytes)
+    let front = front_of(alloc, spelling as usize, id, to, flags)?;
+    let bytes = append(front, body)?;
+    Ok(Bytes::from_vec(bytes))
 }
 
-/// The bytes of a message that fits, from those of its document.
-#[tactic(auto, unfolding(crate::specs::Framing::framing))]
-fn framing_of(alloc: Global, id: i32, to: i32, flags: u32, spelling: &[u8]) -> Result<Bytes, Memory>
-    requires { length spelling.now + 21 ≤ 48000000 }
-    ensures { IfOk result (λ bytes. bytes ≡ framing id to flags spelling.now) }
+/// What stands in front of the document of a message that fits, with room for the document, which has so many bytes.
+fn front_of(alloc: Global, spelling: usize, id: i32, to: i32, flags: u32) -> Result<Vec<u8>, Memory>
+    requires { spelling + 21 ≤ most_message }
+    ensures { IfOk result (λ bytes. bytes.items ≡ header (spelling + 21) id to ++ number32 flags ++ 0 ∷ []) }
 {
-    let total = FRONT + spelling.len();
+    let total = FRONT + spelling;
     let mut out = Vec::with_capacity(alloc, total)?;
     put_header(&mut out, total as u32, id, to)?;
     put_number(&mut out, flags)?;
     out.push(0)?;
-    out.extend_from_slice(spelling)?;
-    Ok(Bytes::from_vec(out))
+    Ok(out)
 }
 
 fn put_header(out: &mut Vec<u8>, total: u32, id: i32, to: i32) -> Result<(), Memory>

@@ -7,9 +7,7 @@ use Rattle.net_link.specs.Seen.{Seen, seen}
 use Rattle.net_link.specs.declared.event.NetEvent.{NetEvent}
 use Rattle.net_link.specs.declared.event.NetEvent.TheVariants as event
 use Rattle.msg_wire.specs.Framing.{Framed}
-use Rattle.msg_wire.specs.Reading.{flaw}
-use Rattle.msg_wire.specs.declared.fault.MsgFault.{MsgFault}
-use Rattle.msg_wire.specs.declared.fault.MsgFault.TheVariants as fault
+pub use Rattle.msg_wire.specs.Places.{AnswersAnother, IsFaultyAt, place_of}
 use Rattle.msg_wire.specs.declared.message.Message.{Message}
 use Rattle.desk_wire.specs.Fronts.{IsFront}
 use Rattle.write_retry.specs.declared.outcome.Outcome.{Outcome}
@@ -18,29 +16,6 @@ use Rattle.shell_top.specs.Reply.{Says}
 use Rattle.shell_top.specs.declared.shot.Shot.{Shot}
 use Rattle.shell_top.specs.declared.shot.ShotEnd.{ShotEnd}
 use Rattle.shell_top.specs.declared.shot.ShotEnd.TheVariants as end
-
--- The place that a fault names in the message: that of the header's field, or of the first byte at fault.
-abbrev pub place_of : MsgFault → Option ℕ
-place_of (fault.Length got) = Some 0
-place_of (fault.Opcode got) = Some 12
-place_of (fault.Flags bit) = Some 16
-place_of (fault.Sections at) = Some at
-place_of (fault.Body at inside) = Some at
-place_of (fault.Short need) = None
-place_of fault.Memory = None
-
--- What came is faulty at the place.
-pub record IsFaultyAt (came : List ℕ) (at : ℕ) : Type 0 where
-  pub first : MsgFault
-  pub is_flaw : flaw came ≡ Some first
-  pub is_place : place_of first ≡ Some at
-
--- What came is a message that answers another request; its responseTo stands at place 8.
-pub record AnswersAnother (id : ℤ) (came : List ℕ) (at : ℕ) : Type 0 where
-  pub message : Message
-  pub framed : Framed came message
-  pub other : message.to ≢ id
-  pub is_place : at ≡ 8
 
 -- What came is the answer to the request, and says so.
 pub record IsAnswer (id : ℤ) (came : List ℕ) (said : Outcome) : Type 0 where

@@ -87,15 +87,7 @@ fn faulty_place(fault: MsgFault) -> u32
     requires { IsRefusal fault }
     ensures { place_of fault ≡ Some result }
 {
-    match fault {
-        MsgFault::Length { .. } => 0,
-        MsgFault::Opcode { .. } => 12,
-        MsgFault::Flags { .. } => 16,
-        MsgFault::Sections { at } => at,
-        MsgFault::Body { at, .. } => at,
-        MsgFault::Short { .. } => unreachable!(),
-        MsgFault::Memory => unreachable!(),
-    }
+    fault.place().unwrap()
 }
 
 fn ending_now<C: Clock>(clock: &C, how: ShotEnd, said: Outcome) -> Ending

@@ -1,8 +1,8 @@
 use Rattle.std.proofs.Common.{◌≡◌, ◌<◌, length, arith}
 use Rattle.std.proofs.lemmas.Bool.Decides.{nat_tests}
 use Rattle.std.proofs.lemmas.Result.{err_from_is_err_and}
+use Rattle.bson_doc.proofs.Steps.{bind-Ok}
 use Rattle.msg_wire.proofs.DocumentLists.{goes_on, stops, is_done}
-use Rattle.msg_wire.proofs.Steps.{bind-Ok}
 use Rattle.msg_wire.proofs.documents.documents_of.Goals as goal
 
 pub loop-rest-init : goal.loop-rest-init

@@ -2,7 +2,7 @@ use Rattle.std.proofs.Common.{◌≡◌, ◌++◌, List, ℕ, ap, ◌∙◌, sub
 use Rattle.std.specs.Int.{w32, cast_unsigned}
 use Rattle.std.proofs.lemmas.Int.{to_z-of_z}
 use Rattle.std.proofs.lemmas.List.{append_assoc}
-use Rattle.bson_wire.specs.Spelled.{number32}
+use Rattle.bson_doc.specs.wire.Spelled.{number32}
 use Rattle.msg_wire.specs.Framing.{header}
 use Rattle.msg_wire.proofs.writing.put_header.Goals as goal
 

@@ -25,9 +25,9 @@ pub fn attempt<R: Wait, N: Net, C: Clock>(
 ) -> Result<Shot, Memory>
     requires { depth_of (doc_of command.now.act) ≤ 90 }
     ensures later { N.faults net.old ≤ N.faults net.new }
-    ensures command { IfOk result (IsShotOf server.db.now id command.now) }
-    ensures made { IfOk result (IsMade C.shows server.address.now id N.tells N.history N.faults net.old net.new) }
-    ensures once { N.tells → SendsOnce server.address.now (request server.db.now id command.now) (N.history net.old) (N.history net.new) }
+    ensures command { IfOk result (IsShotOf server.entry.db.now id command.now) }
+    ensures made { IfOk result (IsMade C.shows server.entry.address.now id N.tells N.history N.faults net.old net.new) }
+    ensures once { N.tells → SendsOnce server.entry.address.now (request server.entry.db.now id command.now) (N.history net.old) (N.history net.new) }
 {
     match request_of(context.alloc, command, server.db, id) {
         Ok(request) => shoot(context, net, server.address, id, request),

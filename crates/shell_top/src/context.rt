@@ -14,7 +14,7 @@ pub struct Context<'a, R: Wait, C: Clock> {
 }
 
 /// Where the requests of a run go.
-#[derive(Clone, Copy, Debug, PartialEq, Eq)]
+#[derive(Clone, Copy)]
 pub struct Server<'a> {
     /// The host's address, as it is dialled.
     pub address: &'a str,

@@ -1,9 +1,10 @@
-ghost use Rattle.std.specs.Prelude.{◌≡◌, ◌≤◌, [], Ok, Err, IfOk, length, take, string_bytes};
+ghost use Rattle.std.specs.Prelude.{◌≡◌, ◌≤◌, [], Ok, Err, length, take};
+ghost use Rattle.host_name.specs.Addresses.{address_text};
 ghost use Rattle.script_text.specs.Bounds.{IsBounded};
 ghost use Rattle.shell_top.specs.Requests.{AreShotsOf, requests};
 ghost use Rattle.shell_top.specs.Run.{IsDone, IsIdle, IsReached, IsUsage, ReadsScript, Reports, SendsRequests, all_ok};
 ghost use Rattle.shell_top.specs.Wired.{AreMade, AreSentOnce};
-ghost use Rattle.shell_top.specs.Words.{Asked, address_of, asks};
+ghost use Rattle.shell_top.specs.Words.{Asked, asks};
 ghost use Rattle.shell_top.specs.declared.status.UseFault.{UseFault};
 
 use crate::context::{Context, Server};
@@ -12,9 +13,8 @@ use crate::sending::send_commands;
 use crate::shot::Shot;
 use crate::status::{Ended, Status};
 use crate::words::{Target, WordStop, read_words};
-use bson_doc::{Buffer, Memory, Rows, Text};
+use bson_doc::{Buffer, Rows, Text};
 use cmd_build::Command;
-use host_name::Host;
 use net_link::{Clock, Net, Sink, Source, write_all};
 use script_text::{ScriptRead, read_script};
 use std::alloc::Global;
@@ -51,11 +51,11 @@ pub fn run<R: Wait, S: Source, K: Sink, N: Net, C: Clock>(
     // Each command of the script has one shot, in order, with the request that it asks for, which was sent at most once, to
     // the host, whatever the status.
     ensures requests { (asked : Asked) → asks words.now ≡ Ok asked
-        → SendsRequests S.tells (S.left script.old) asked.db (address_of asked.host) N.tells (N.history net) (N.history result.net) result.status result.shots }
+        → SendsRequests S.tells (S.left script.old) asked.db (address_text asked.host) N.tells (N.history net) (N.history result.net) result.status result.shots }
 
     // What a shot says is what the clock showed and the net told, one shot after another; its failures are the net's.
     ensures shots { (asked : Asked) → asks words.now ≡ Ok asked
-        → AreMade C.shows (address_of asked.host) N.tells N.history N.faults net result.net (IsDone result.status) result.shots }
+        → AreMade C.shows (address_text asked.host) N.tells N.history N.faults net result.net (IsDone result.status) result.shots }
 {
     let context = Context { rt, alloc, clock };
     match read_words(alloc, words.as_slice()) {
@@ -77,9 +77,9 @@ fn run_script<R: Wait, S: Source, K: Sink, N: Net, C: Clock>(
     ensures script { ReadsScript S.tells S.left S.faults script.old script.new result.status }
     ensures idle { IsIdle result.status → result.net ≡ net }
     ensures report { Reports K.tells K.written K.faults out.old out.new result.status result.shots }
-    ensures requests { SendsRequests S.tells (S.left script.old) target.entry.db.now (address_of target.entry.host) N.tells (N.history net) (N.history result.net)
+    ensures requests { SendsRequests S.tells (S.left script.old) target.entry.db.now (address_text target.entry.host) N.tells (N.history net) (N.history result.net)
         result.status result.shots }
-    ensures shots { AreMade C.shows (address_of target.entry.host) N.tells N.history N.faults net result.net (IsDone result.status) result.shots }
+    ensures shots { AreMade C.shows (address_text target.entry.host) N.tells N.history N.faults net result.net (IsDone result.status) result.shots }
 {
     match read_script(context.alloc, script) {
         Ok(commands) => run_commands(context, &target, commands.as_slice(), out, net),
@@ -102,12 +102,12 @@ fn run_commands<R: Wait, K: Sink, N: Net, C: Clock>(
     ensures report { Reports K.tells K.written K.faults out.old out.new result.status result.shots }
     ensures commands { AreShotsOf target.now.db.now 1 (take (length result.shots) commands.now) result.shots }
     ensures all { IsDone result.status → length result.shots ≡ length commands.now }
-    ensures shots { AreMade C.shows (address_of target.now.host) N.tells N.history N.faults net result.net (IsDone result.status) result.shots }
-    ensures once { N.tells → AreSentOnce (address_of target.now.host) (requests target.now.db.now 1 commands.now) (N.history net) (N.history result.net) }
+    ensures shots { AreMade C.shows (address_text target.now.host) N.tells N.history N.faults net result.net (IsDone result.status) result.shots }
+    ensures once { N.tells → AreSentOnce (address_text target.now.host) (requests target.now.db.now 1 commands.now) (N.history net) (N.history result.net) }
 {
     let mut net = net;
     let alloc = context.alloc;
-    let Ok(address) = address_of(alloc, &target.host) else {
+    let Ok(address) = target.host.text(alloc) else {
         return before_all(alloc, net, Status::Memory);
     };
     let server = Server {
@@ -129,13 +129,6 @@ fn run_commands<R: Wait, K: Sink, N: Net, C: Clock>(
         net,
         shots: shots.into_rows(),
     }
-}
-
-/// The host as it is displayed and dialled.
-fn address_of(alloc: Global, host: &Host) -> Result<String, Memory>
-    ensures { IfOk result (λ text. string_bytes text ≡ address_of host.now) }
-{
-    format!(in alloc; "{}:{}", host.name(), host.port())
 }
 
 /// What a run leaves that ended before its first command.

@@ -22,10 +22,10 @@ pub fn send_commands<R: Wait, N: Net, C: Clock>(
 ) -> Result<(), Memory>
     requires bounded { IsBounded commands.now }
     requires none { shots.old.items ≡ [] }
-    ensures commands { AreShotsOf server.db.now 1 (take (length shots.new.items) commands.now) shots.new.items }
+    ensures commands { AreShotsOf server.entry.db.now 1 (take (length shots.new.items) commands.now) shots.new.items }
     ensures all { OnOk result (length shots.new.items ≡ length commands.now) }
-    ensures made { AreMade C.shows server.address.now N.tells N.history N.faults net.old net.new (IsOk result) shots.new.items }
-    ensures once { N.tells → AreSentOnce server.address.now (requests server.db.now 1 commands.now) (N.history net.old) (N.history net.new) }
+    ensures made { AreMade C.shows server.entry.address.now N.tells N.history N.faults net.old net.new (IsOk result) shots.new.items }
+    ensures once { N.tells → AreSentOnce server.entry.address.now (requests server.entry.db.now 1 commands.now) (N.history net.old) (N.history net.new) }
 {
     shots.reserve(commands.len())?;
     'sending: for (place, command) in commands.iter().enumerate() {

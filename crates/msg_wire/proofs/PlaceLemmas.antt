@@ -1,7 +1,6 @@
 -- Where a fault comes from, that its place lies inside the message, and that want of memory is none.
-use Rattle.std.proofs.Common.{◌≡◌, ◌≢◌, ◌≤◌, ℕ, ℤ, false, List, length, take, Some, None, inl, inr, sym, ap, ◌∙◌, subst, arith}
+use Rattle.std.proofs.Common.{◌≡◌, ◌≢◌, ◌≤◌, ℕ, ℤ, Bool, true, false, cond, ltb, List, length, take, Some, None, inl, inr, refl, sym, ap, ◌∙◌, subst, arith}
 use Rattle.std.proofs.lemmas.Bool.{cases_lt}
-use Rattle.std.proofs.lemmas.Bool.Decides.{nat_tests}
 use Rattle.std.proofs.lemmas.List.{length-take-le}
 use Rattle.bson_doc.proofs.Steps.{err_same}
 use Rattle.bson_doc.specs.declared.bson_fault.BsonFault.TheVariants as bson_fault
@@ -115,8 +114,13 @@ of_bytes bytes e h = of_bytes_from bytes e (from_flaw bytes e h)
 
 -- ---- the numbers of the header and flagBits
 
+none_either : (few fits : Bool) (n : ℕ) → fits ≡ false → cond few None (cond fits (Some n) None) ≡ None
+none_either true fits n out = refl
+none_either false true n out = absurd cc
+none_either false false n out = refl
+
 no_need : (bytes : List ℕ) → is_length (number_at 0 bytes) ≡ false → need_of bytes ≡ None
-no_need bytes out = grind (arith, nat_tests, out)
+no_need bytes out = none_either (ltb (length bytes) 4) (is_length (number_at 0 bytes)) (number_at 0 bytes) out
 
 length_from : (bytes : List ℕ) (got : ℤ) → ComesFrom bytes (fault.Length got) → (need_of bytes ≡ None) × (got ≡ signed_at 0 bytes)
 length_from bytes got (wanting n short) = absurd cc

@@ -14,7 +14,7 @@ use Rattle.msg_wire.proofs.Whole.{flaw-framed}
 use Rattle.net_link.specs.Turns.{added, AddsUpTo}
 use Rattle.net_link.specs.declared.net.Came.{Came}
 use Rattle.net_link.specs.declared.net.Came.TheVariants as came
-use Rattle.desk_wire.specs.Fronts.{IsFront, HasNoneTooMany}
+use Rattle.msg_wire.specs.Fronts.{IsFront, HasNoneTooMany}
 
 -- A fault asks for more bytes, or does not.
 short_cases : (found : Option MsgFault) → ((n : ℕ) × (found ≡ Some (fault.Short n))) ⊎ ((n : ℕ) → found ≢ Some (fault.Short n))

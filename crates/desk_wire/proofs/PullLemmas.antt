@@ -16,7 +16,7 @@ use Rattle.msg_wire.specs.Reading.{flaw}
 use Rattle.msg_wire.specs.declared.fault.MsgFault.{MsgFault}
 use Rattle.msg_wire.specs.declared.fault.MsgFault.TheVariants as fault
 use Rattle.msg_wire.specs.declared.message.Message.{Message}
-use Rattle.desk_wire.specs.Fronts.{HasNoneTooMany, IsRefused}
+use Rattle.msg_wire.specs.Fronts.{HasNoneTooMany, IsRefused}
 use Rattle.desk_wire.specs.Made.{Made, is_read}
 use Rattle.desk_wire.specs.Pull.{Empties, HandsOut, Pulls, pull_end}
 use Rattle.desk_wire.specs.State.{State}

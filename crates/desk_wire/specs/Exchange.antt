@@ -3,7 +3,7 @@ use Rattle.std.specs.Prelude.{◌≡◌, ◌≢◌, ◌<◌, ◌≤◌, ◌^◌,
 use Rattle.net_link.specs.declared.event.NetEvent.{NetEvent}
 use Rattle.net_link.specs.declared.event.NetEvent.TheVariants as event
 use Rattle.msg_wire.specs.Framing.{Framed}
-use Rattle.desk_wire.specs.Fronts.{IsFront, IsRefused}
+use Rattle.msg_wire.specs.Fronts.{IsFront, IsRefused}
 use Rattle.desk_wire.specs.Made.{InOrder, Made, is_turn}
 use Rattle.desk_wire.specs.State.{State}
 use Rattle.desk_wire.specs.declared.answers.Pulled.{Pulled}

@@ -1,28 +1,9 @@
--- The messages at the front of bytes, and what any list of pulls and pushes makes of a wire.
-use Rattle.std.specs.Prelude.{◌≡◌, ◌≢◌, ℕ, List, [], ◌∷◌, ◌++◌, None}
-use Rattle.msg_wire.specs.Framing.{Framed}
-use Rattle.msg_wire.specs.Reading.{flaw}
+-- What any list of pulls and pushes makes of a wire.
+use Rattle.std.specs.Prelude.{◌≡◌, ℕ, List, [], ◌∷◌, ◌++◌}
 use Rattle.msg_wire.specs.declared.message.Message.{Message}
 use Rattle.desk_wire.specs.Pull.{HandsOut}
 use Rattle.desk_wire.specs.declared.answers.Pulled.{Pulled}
 use Rattle.desk_wire.specs.declared.answers.Pulled.TheVariants as pulled
-
--- The bytes are those of a message, and the rest behind it.
-pub record IsFirst (bytes : List ℕ) (message : Message) (rest : List ℕ) : Type 0 where
-  pub text : List ℕ
-  pub parts : bytes ≡ text ++ rest
-  pub framed : Framed text message
-
--- The bytes begin with these framed messages, one after another, and the rest stands behind them (MongoDB wire
--- protocol: messages follow one another on a connection).
-abbrev pub Begins : List ℕ → List Message → List ℕ → Type 0
-Begins bytes [] rest = bytes ≡ rest
-Begins bytes (message ∷ messages) rest = (behind : List ℕ) × IsFirst bytes message behind × Begins behind messages rest
-
--- These are all the messages at the front, and that is the rest: no message begins it.
-pub record IsParted (bytes : List ℕ) (messages : List Message) (rest : List ℕ) : Type 0 where
-  pub begins : Begins bytes messages rest
-  pub no_more : flaw rest ≢ None
 
 -- One pull, by what it did: the bytes that came in it, and its answer.
 pub record Step : Type 0 where
@@ -41,6 +22,12 @@ handed step = message_in step.answer
 abbrev pub Follow : List ℕ → List Step → List ℕ → Type 0
 Follow before [] held = before ≡ held
 Follow before (step ∷ steps) held = (between : List ℕ) × HandsOut (before ++ step.came) between step.answer × Follow between steps held
+
+-- The last pull wanted memory, so that a message which is there whole may still be held.
+abbrev pub WantedMemory : List Step → Type 0
+WantedMemory [] = ⊥
+WantedMemory (step ∷ []) = step.answer ≡ pulled.Memory
+WantedMemory (step ∷ next ∷ steps) = WantedMemory (next ∷ steps)
 
 -- A call of a wire that has to do with what it sends: bytes were queued, when none were unsent, or some were sent.
 pub data Sending : Type 0 where

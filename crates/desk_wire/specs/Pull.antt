@@ -4,7 +4,7 @@ use Rattle.net_link.specs.Prefix.{IsPrefixOf}
 use Rattle.net_link.specs.declared.event.NetEvent.{NetEvent}
 use Rattle.net_link.specs.declared.event.NetEvent.TheVariants as event
 use Rattle.msg_wire.specs.Framing.{Framed}
-use Rattle.desk_wire.specs.Fronts.{HasNoneTooMany, IsFront, IsRefused}
+use Rattle.msg_wire.specs.Fronts.{HasNoneTooMany, IsFront, IsRefused}
 use Rattle.desk_wire.specs.Made.{Made, is_read}
 use Rattle.desk_wire.specs.declared.answers.Pulled.{Pulled}
 use Rattle.desk_wire.specs.declared.answers.Pulled.TheVariants as pulled

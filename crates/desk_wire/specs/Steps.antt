@@ -7,7 +7,7 @@ use Rattle.net_link.specs.declared.net.Wrote.{Wrote}
 use Rattle.net_link.specs.declared.net.Wrote.TheVariants as wrote
 use Rattle.net_link.specs.declared.net.Came.{Came}
 use Rattle.net_link.specs.declared.net.Came.TheVariants as came
-use Rattle.desk_wire.specs.Fronts.{HasNoneTooMany, IsRefused}
+use Rattle.msg_wire.specs.Fronts.{HasNoneTooMany, IsRefused}
 use Rattle.desk_wire.specs.State.{State}
 use Rattle.desk_wire.specs.declared.wire.Judged.{Judged}
 use Rattle.desk_wire.specs.declared.wire.Judged.TheVariants as judged

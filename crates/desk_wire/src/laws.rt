@@ -1,7 +1,7 @@
 //! Laws of wires, each the contract of a function that does nothing.
 
-ghost use Rattle.std.specs.Prelude.{◌≡◌, ◌≢◌, ℕ, List, [], ◌++◌, None, flat_map};
-ghost use Rattle.msg_wire.specs.Reading.{flaw};
+ghost use Rattle.std.specs.Prelude.{◌≡◌, ◌≤◌, ℕ, List, [], ◌++◌, flat_map, length};
+ghost use Rattle.msg_wire.specs.Messages.{Begins, IsParted};
 ghost use Rattle.msg_wire.specs.declared.message.Message.{Message};
 ghost use Rattle.net_link.specs.Events.{OnlyAt};
 ghost use Rattle.net_link.specs.declared.event.NetEvent.{NetEvent};
@@ -10,27 +10,19 @@ ghost use Rattle.desk_wire.specs.Gains.{Gains, turned_as};
 ghost use Rattle.desk_wire.specs.Made.{Made, is_read, is_turn, is_write};
 ghost use Rattle.desk_wire.specs.Pull.{pull_end};
 ghost use Rattle.desk_wire.specs.Push.{push_end};
-ghost use Rattle.desk_wire.specs.Fronts.{HasNoneTooMany, IsFront};
-ghost use Rattle.desk_wire.specs.Messages.{Begins, IsParted, Step, handed, Follow, Sending, Sends, bytes_queued, bytes_sent};
+ghost use Rattle.desk_wire.specs.Messages.{Step, handed, Follow, Sending, Sends, WantedMemory, bytes_queued, bytes_sent};
 
 use crate::{Pulled, Pushed};
 
-/// Over any list of pulls on a new wire: what was handed out, with what is held, is the messages at the front of all
-/// that came, in order, each once.
+/// Over any list of pulls on a new wire: what was handed out, with what is held, is the messages at the front of all that
+/// came, in order, each once. It is all of them, unless the last pull wanted memory: then at most one is still held.
 pub fn pulls_in_order()
-    ensures { (steps : List Step) (held : List ℕ) → Follow [] steps held
+    ensures begins { (steps : List Step) (held : List ℕ) → Follow [] steps held
         → Begins (flat_map (λ step. step.came) steps) (flat_map handed steps) held }
-{}
-
-/// Bytes have one list of all the messages at their front, and one rest.
-pub fn parted_once()
-    ensures { (bytes : List ℕ) (some others : List Message) (rest other_rest : List ℕ)
-        → IsParted bytes some rest → IsParted bytes others other_rest → (some ≡ others) × (rest ≡ other_rest) }
-{}
-
-/// What is held while a message is not there whole begins with none.
-pub fn front_asks_on()
-    ensures { (bytes : List ℕ) → IsFront bytes → flaw bytes ≢ None }
+    ensures all { (steps : List Step) (held : List ℕ) → Follow [] steps held → ¬ WantedMemory steps
+        → IsParted (flat_map (λ step. step.came) steps) (flat_map handed steps) held }
+    ensures wanting { (steps : List Step) (held : List ℕ) (more : List Message) (rest : List ℕ) → Follow [] steps held
+        → Begins held more rest → length more ≤ 1 }
 {}
 
 /// Over any list of calls that queue and send on a new wire: what was sent, with what is unsent, is all that was queued.

@@ -38,7 +38,7 @@ pub struct Wire {
 impl Model for Wire {
     ghost use Rattle.std.specs.Prelude.{◌≤◌, drop, length};
     ghost use Rattle.desk_wire.specs.State.{State};
-    ghost use Rattle.desk_wire.specs.Fronts.{HasNoneTooMany};
+    ghost use Rattle.msg_wire.specs.Fronts.{HasNoneTooMany};
 
     ghost Value = { State };
 

@@ -1,6 +1,6 @@
 -- What sending a request and taking the reply to it on one stream says.
-use Rattle.std.specs.Prelude.{◌≡◌, ◌≢◌, ℕ, ℤ, true, List, All}
-use Rattle.net_link.specs.Events.{Adds, is_at}
+use Rattle.std.specs.Prelude.{◌≡◌, ◌≢◌, ℕ, ℤ, List}
+use Rattle.net_link.specs.Events.{OnlyAt}
 use Rattle.net_link.specs.Prefix.{IsPrefixOf}
 use Rattle.net_link.specs.Seen.{seen}
 use Rattle.net_link.specs.declared.event.NetEvent.{NetEvent}
@@ -14,12 +14,6 @@ use Rattle.shell_top.specs.declared.shot.ShotEnd.TheVariants as end
 -- A new wire that has the request to send.
 abbrev pub ready : ℕ → List ℕ → State
 ready stream request = record (opened stream) { unsent = request }
-
--- All calls since then concerned this stream.
-pub record OnlyAt (stream : ℕ) (old new : List NetEvent) : Type 0 where
-  pub events : List NetEvent
-  pub adds : Adds events old new
-  pub here : All (λ e. is_at e stream ≡ true) events
 
 -- All calls concerned this stream, and the bytes out are the request's, the last perhaps cut.
 pub record SendsOnly (stream : ℕ) (request : List ℕ) (old new : List NetEvent) : Type 0 where

@@ -37,8 +37,6 @@ fn a_promise_of_many_bytes_makes_it_hold_sixteen(rt: HostRuntime) -> Result<(), 
 #[test]
 fn the_laws(_rt: HostRuntime) {
     laws::pulls_in_order();
-    laws::parted_once();
-    laws::front_asks_on();
     laws::sends_in_order();
     laws::on_one_stream();
     laws::gains();

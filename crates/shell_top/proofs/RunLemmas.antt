@@ -86,19 +86,19 @@ read_to_end old new commands reads t = reads.whole t tt (read-short reads.bytes 
 
 -- ---- what a run says of its script, by what was read
 
-unrefused : {tells : Type 0} (source : List ℕ) (s : Status) → IsReached s → IsScripts tells source s
-unrefused source (status.Usage fault) reached = absurd reached
-unrefused source (status.Script fault) reached = absurd reached
-unrefused source status.ReadFault reached = absurd reached
-unrefused source status.AllOk reached = tt
-unrefused source status.SomeFailed reached = tt
-unrefused source status.WriteFault reached = tt
-unrefused source status.Memory reached = tt
+unrefused : (tells : Type 0) (source : List ℕ) (s : Status) → IsReached s → IsScripts tells source s
+unrefused tells source (status.Usage fault) reached = absurd reached
+unrefused tells source (status.Script fault) reached = absurd reached
+unrefused tells source status.ReadFault reached = absurd reached
+unrefused tells source status.AllOk reached = tt
+unrefused tells source status.SomeFailed reached = tt
+unrefused tells source status.WriteFault reached = tt
+unrefused tells source status.Memory reached = tt
 
 pub script-read : {A : Type 0} {tells : Type 0} (left : A → List ℕ) (faults : A → ℕ) (old new : A) (commands : List Command) (s : Status)
     → Reads tells (left old) (left new) (Ok commands) → faults old ≤ faults new → IsReached s → ReadsScript tells left faults old new s
-script-read left faults old new commands s reads later reached = record {
-  refused = unrefused (left old) s reached;
+script-read {tells = tells} left faults old new commands s reads later reached = record {
+  refused = unrefused tells (left old) s reached;
   in_script = λ t fault e. not-refused (left old) commands fault s (tells-ok (left old) (left new) commands reads) t e;
   cause = record { later = later; rose = λ is. absurd (subst IsReached is reached) };
   whole = λ t done. read_to_end (left old) (left new) commands reads t;

@@ -93,7 +93,7 @@ each_so_far shows ss new s k all one =
 
 -- One more failure was told where one more was counted.
 failures_with : (t : Bool) (before mid after k : ℕ) → count_of (before + k) ≤ mid → mid ≤ after → (IsTrue t → Rose mid after) → count_of (before + (k + cond t 1 0)) ≤ after
-failures_with true before mid after k all le rose = let risen : Rose mid after = rose tt in omega arith
+failures_with true before mid after k all le rose = let risen : Rose mid after = rose refl in omega arith
 failures_with false before mid after k all le rose = omega arith
 
 failure_count-more : (ss : List Shot) (s : Shot) → failure_count (ss ++ s ∷ []) ≡ failure_count ss + cond (is_failure s.end) 1 0

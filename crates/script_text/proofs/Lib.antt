@@ -1,4 +1,6 @@
 pub mod ParsedLemmas
 pub mod LineLemmas
 pub mod AnswerLemmas
+pub mod DepthLemmas
+pub mod ReadLemmas
 mod Worked

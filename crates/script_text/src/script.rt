@@ -1,5 +1,6 @@
 ghost use Rattle.std.specs.Prelude.{◌≡◌, ◌≢◌, ◌+◌, ◌<◌, ◌≤◌, ◌++◌, List, Ok, Err, length, OnOk, IfOk, IfErr};
 ghost use Rattle.net_link.specs.Causes.{HasCause};
+ghost use Rattle.script_text.specs.Bounds.{IsBounded};
 ghost use Rattle.script_text.specs.Lines.{lines_of};
 ghost use Rattle.script_text.specs.Scripts.{Reading, AddsLine, StopsAt, most_bytes, read_line, readings, faults_of, lines_reading};
 ghost use Rattle.script_text.specs.Taken.{Answers, Reads};
@@ -25,6 +26,7 @@ const MOST_COMMANDS: usize = 100_000;
 pub fn read_script<S: Source>(alloc: Global, source: &mut S) -> Result<Rows<Command>, ScriptRead>
     ensures reads { Reads S.tells (S.left source.old) (S.left source.new) result }
     ensures cause { HasCause (S.faults source.old) (S.faults source.new) (result ≡ Err ScriptRead.ReadFault) }
+    ensures bounded { IfOk result IsBounded }
 {
     match take_text(alloc, source) {
         Ok(text) => read_text(alloc, text.as_slice()),

@@ -2,5 +2,4 @@ mod MeansLemmas
 mod ReportLemmas
 mod RequestLemmas
 mod RunLemmas
-mod ScriptLemmas
-mod VolleyLemmas
+mod SendingLemmas

@@ -19,7 +19,7 @@ use Rattle.desk_wire.specs.declared.answers.Pulled.{Pulled}
 use Rattle.desk_wire.specs.declared.answers.Pulled.TheVariants as pulled
 use Rattle.desk_wire.proofs.SeenLemmas.{made-ended, made-fault, made-here, made-moves, made-waits}
 use Rattle.shell_top.specs.Conversation.{Concludes, ready, SendsOnly}
-use Rattle.shell_top.specs.Wired.{Means, none, on, place_of, SendsOnce, UsesOnly, Wired}
+use Rattle.shell_top.specs.Wired.{Means, nothing, on, undialled, place_of, SendsOnce, UsesOnly, Wired}
 use Rattle.write_retry.specs.declared.outcome.Outcome.{Outcome}
 use Rattle.shell_top.specs.declared.shot.ShotEnd.{ShotEnd}
 use Rattle.shell_top.specs.declared.shot.ShotEnd.TheVariants as end
@@ -121,9 +121,9 @@ uses-only address dialled sends closed = record {
 }
 
 pub once-on : {s : ℕ} {h a b c : List NetEvent} {request : List ℕ} (address : List ℕ) → IsFresh s h → Adds (event.Dialled s address ∷ []) h a
-    → SendsOnly s request a b → Adds (event.Closed s ∷ []) b c → SendsOnce request h c
+    → SendsOnly s request a b → Adds (event.Closed s ∷ []) b c → SendsOnce address request h c
 once-on {s = s} {request = request} address fresh dialled sends closed =
-    on s address fresh (uses-only address dialled sends closed) (subst (λ v. IsPrefixOf v.out request) (sym (seen-closed s s closed)) sends.out)
+    on s fresh (uses-only address dialled sends closed) (subst (λ v. IsPrefixOf v.out request) (sym (seen-closed s s closed)) sends.out)
 
 pub wired-on : {s : ℕ} {h a b c : List NetEvent} {request : List ℕ} (id : ℤ) (address : List ℕ) (ended : ShotEnd) (said : Outcome) → IsFresh s h
     → Adds (event.Dialled s address ∷ []) h a → SendsOnly s request a b → Means id (seen s b) request ended said → Adds (event.Closed s ∷ []) b c
@@ -131,11 +131,11 @@ pub wired-on : {s : ℕ} {h a b c : List NetEvent} {request : List ℕ} (id : �
 wired-on {s = s} {request = request} id address ended said fresh dialled sends means closed =
     (fresh, uses-only address dialled sends closed, subst (λ v. Means id v request ended said) (sym (seen-closed s s closed)) means)
 
-pub once-no_dial : {a b : List NetEvent} (request address : List ℕ) → Adds (event.NoDial address ∷ []) a b → SendsOnce request a b
-once-no_dial request address adds = none (event.NoDial address ∷ []) adds (search rules)
+pub once-no_dial : {a b : List NetEvent} (request address : List ℕ) → Adds (event.NoDial address ∷ []) a b → SendsOnce address request a b
+once-no_dial request address adds = undialled adds
 
-pub once-silent : {a b : List NetEvent} (request : List ℕ) → Adds [] a b → SendsOnce request a b
-once-silent request adds = none [] adds (search rules)
+pub once-silent : {a b : List NetEvent} (request address : List ℕ) → Adds [] a b → SendsOnce address request a b
+once-silent request address adds = nothing adds
 
 -- The same request in other words.
 pub sends-as : {s : ℕ} {a b : List NetEvent} {xs request : List ℕ} → xs ≡ request → SendsOnly s xs a b → SendsOnly s request a b
@@ -147,10 +147,3 @@ means-as id v ended said same means = subst (λ r. Means id v r ended said) same
 -- The same id in other words.
 pub means-of : (v : Seen) (request : List ℕ) (ended : ShotEnd) (said : Outcome) {i j : ℤ} → i ≡ j → Means i v request ended said → Means j v request ended said
 means-of v request ended said same means = subst (λ k. Means k v request ended said) same means
-
-pub once-as : {a b : List NetEvent} {xs request : List ℕ} → xs ≡ request → SendsOnce xs a b → SendsOnce request a b
-once-as {a = a} {b = b} same once = subst (λ r. SendsOnce r a b) same once
-
--- The same net.
-pub once-same : {N : Type 0} {a b : N} {request : List ℕ} {old : List NetEvent} (history : N → List NetEvent) → a ≡ b → SendsOnce request old (history b) → SendsOnce request old (history a)
-once-same {request = request} {old = old} history same once = subst (λ n. SendsOnce request old (history n)) (sym same) once

@@ -1,11 +1,11 @@
 -- A request is not too deep, not too long, and sets no flag that is refused.
 use Rattle.std.proofs.Common.{◌≡◌, ℕ, ℤ, ◌+◌, ◌-◌, ◌^◌, ◌≤◌, max, min, Bool, true, false, None, Some, Option, nat_lt, if◌then◌else◌, List, [], ◌∷◌, length, codes, refl, ap, ◌∙◌, arith}
 use Rattle.std.proofs.lemmas.Bool.{ltb-false}
-use Rattle.bson_doc.specs.Documents.{depth_of, depth_inside, value_step, document_step}
+use Rattle.bson_doc.specs.Documents.{depth_of, depth_inside}
 use Rattle.bson_doc.specs.declared.value.Document.{Document}
-use Rattle.bson_doc.specs.declared.value.Value.{Value, Value-F, Array, Doc, map-Value, out-Value, fold_out-Value}
+use Rattle.bson_doc.specs.declared.value.Value.{Array, Doc}
 use Rattle.bson_doc.specs.declared.value.Value.TheVariants as value
-use Rattle.bson_doc.specs.declared.value.Value.TheVariants.{outs-Str, outs-Doc, outs-Bool}
+use Rattle.bson_doc.specs.declared.value.Value.TheVariants.{outs-Str, outs-Bool}
 use Rattle.bson_doc.proofs.Depths.{depth_of-elements, depth_inside-Array}
 use Rattle.bson_wire.specs.Spelled.{spelled}
 use Rattle.msg_wire.specs.Flags.{refused_bit, is_set}
@@ -14,20 +14,14 @@ use Rattle.msg_wire.proofs.Framings.{length-framing}
 use Rattle.cmd_build.specs.Inserts.{write_concern, insert_command, first_command, db_of, doc_of}
 use Rattle.cmd_build.specs.Sizes.{excess, document_size, message_size}
 use Rattle.cmd_build.specs.declared.command.Command.{Command}
+use Rattle.script_text.proofs.DepthLemmas.{depth_inside-layer, depth_inside-Doc}
 
 pub refused_bit-0 : refused_bit 0 ≡ None
 unfolding refused_bit
 refused_bit-0 = refl
 
-pub depth_inside-layer : (v : Value) (w : Value-F Value Document) → out-Value v ≡ w → depth_inside v ≡ value_step (map-Value Value Document ℕ ℕ depth_inside depth_of w)
-depth_inside-layer v w e =
-    fold_out-Value ℕ ℕ value_step document_step v ∙ ap (λ u. value_step (map-Value Value Document ℕ ℕ depth_inside depth_of u)) e
-
 depth_inside-Str : (text : List ℕ) → depth_inside (value.Str text) ≡ 0
 depth_inside-Str text = depth_inside-layer _ _ (outs-Str text)
-
-pub depth_inside-Doc : (d : Document) → depth_inside (Doc d) ≡ depth_of d
-depth_inside-Doc d = depth_inside-layer _ _ (outs-Doc d)
 
 depth_inside-true : depth_inside (value.Bool true) ≡ 0
 depth_inside-true = depth_inside-layer _ _ (outs-Bool true)

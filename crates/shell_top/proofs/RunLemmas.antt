@@ -1,6 +1,7 @@
 -- What the parts of a run say of the whole.
 use Rattle.std.proofs.Common.{◌≡◌, ℕ, ◌≤◌, Result, Ok, Err, List, [], ◌∷◌, ◌++◌, length, take, refl, sym, ap, subst, ◌∙◌, arith, All, inl, inr, ◌⊎◌}
 use Rattle.std.proofs.lemmas.List.{take_all}
+use Rattle.net_link.specs.Causes.{HasCause}
 use Rattle.net_link.specs.declared.event.NetEvent.{NetEvent}
 use Rattle.cmd_build.specs.declared.command.Command.{Command}
 use Rattle.script_text.specs.Scripts.{script_reading}
@@ -8,13 +9,13 @@ use Rattle.script_text.specs.Taken.{Reads}
 use Rattle.script_text.specs.declared.fault.ScriptFault.{ScriptFault}
 use Rattle.script_text.specs.declared.fault.ScriptRead.TheVariants as stop
 use Rattle.shell_top.specs.Requests.{AreShotsOf}
-use Rattle.shell_top.specs.Run.{IsDone, IsReached, Refuses, ShootsAll, Shoots, Tells}
-use Rattle.shell_top.specs.Wired.{AreSentOnce, AreWiredTo}
+use Rattle.shell_top.specs.Run.{IsDone, IsReached, IsScripts, ReadsScript, Refuses, ShootsAll, Shoots, Tells}
+use Rattle.shell_top.specs.Wired.{AreMade, AreSentOnce}
 use Rattle.shell_top.specs.declared.shot.Shot.{Shot}
 use Rattle.shell_top.specs.declared.status.Status.{Status}
 use Rattle.shell_top.specs.declared.status.Status.TheVariants as status
-use Rattle.shell_top.proofs.ScriptLemmas.{reading-of_source}
-use Rattle.shell_top.proofs.VolleyLemmas.{AreSentOnce-none, AreWired-none}
+use Rattle.script_text.proofs.ReadLemmas.{read-short, reading-of_source}
+use Rattle.shell_top.proofs.SendingLemmas.{AreSentOnce-none, made_none}
 
 -- ---- what was read of the source
 
@@ -69,8 +70,68 @@ reached-shoots source db commands status.Memory shots script reached each all = 
 
 -- ---- a run that ended before its first command
 
-pub wired-before : (address : List ℕ) (old new : List NetEvent) (done : Type 0) (shots : List Shot) → new ≡ old → shots ≡ [] → AreWiredTo address old new done shots
-wired-before address old new done shots same none = record { last = old; wired = AreWired-none address old shots none; all = λ d. same }
+pub once-before : (address : List ℕ) (rs : List (List ℕ)) (old new : List NetEvent) → new ≡ old → AreSentOnce address rs old new
+once-before address rs old new same = subst (λ h. AreSentOnce address rs old h) (sym same) (AreSentOnce-none address rs old)
 
-pub once-before : (rs : List (List ℕ)) (old new : List NetEvent) → new ≡ old → AreSentOnce rs old new
-once-before rs old new same = subst (λ h. AreSentOnce rs old h) (sym same) (AreSentOnce-none rs old)
+pub made-before : {A : Type 0} {tells : Type 0} (shows : ℕ → Type 0) (address : List ℕ) (history : A → List NetEvent) (faults : A → ℕ) (old new : A) (done : Type 0) (ss : List Shot)
+    → new ≡ old → ss ≡ [] → AreMade shows address tells history faults old new done ss
+made-before {tells = tells} shows address history faults old new done ss same none =
+    subst (λ n. AreMade shows address tells history faults old n done ss) (sym same) (made_none shows address history faults old done ss none)
+
+-- ---- what was left of the script
+
+-- Where its commands were sent, nothing.
+pub read_to_end : {tells : Type 0} (old new : List ℕ) (commands : List Command) → Reads tells old new (Ok commands) → tells → new ≡ []
+read_to_end old new commands reads t = reads.whole t tt (read-short reads.bytes commands reads.says)
+
+-- ---- what a run says of its script, by what was read
+
+unrefused : (tells : Type 0) (source : List ℕ) (s : Status) → IsReached s → IsScripts tells source s
+unrefused tells source (status.Usage fault) reached = absurd reached
+unrefused tells source (status.Script fault) reached = absurd reached
+unrefused tells source status.ReadFault reached = absurd reached
+unrefused tells source status.AllOk reached = tt
+unrefused tells source status.SomeFailed reached = tt
+unrefused tells source status.WriteFault reached = tt
+unrefused tells source status.Memory reached = tt
+
+pub script-read : {A : Type 0} {tells : Type 0} (left : A → List ℕ) (faults : A → ℕ) (old new : A) (commands : List Command) (s : Status)
+    → Reads tells (left old) (left new) (Ok commands) → faults old ≤ faults new → IsReached s → ReadsScript tells left faults old new s
+script-read {tells = tells} left faults old new commands s reads later reached = record {
+  refused = unrefused tells (left old) s reached;
+  in_script = λ t fault e. not-refused (left old) commands fault s (tells-ok (left old) (left new) commands reads) t e;
+  cause = record { later = later; rose = λ is. absurd (subst IsReached is reached) };
+  whole = λ t done. read_to_end (left old) (left new) commands reads t;
+}
+
+pub script-refused : {A : Type 0} {tells : Type 0} (left : A → List ℕ) (faults : A → ℕ) (old new : A) (told : ScriptFault) (s : Status)
+    → Reads tells (left old) (left new) (Err (stop.Fault told)) → faults old ≤ faults new → s ≡ status.Script told → ReadsScript tells left faults old new s
+script-refused {tells = tells} left faults old new told s reads later is =
+    let script = tells-fault (left old) (left new) told reads in
+    record {
+      refused = subst (IsScripts tells (left old)) (sym is) script;
+      in_script = λ t fault e. refused-so (left old) told fault s is script t e;
+      cause = record { later = later; rose = λ other. absurd (let never : ⊥ = cc in never) };
+      whole = λ t done. absurd (subst IsDone is done);
+    }
+
+-- The status says nothing of the script.
+abbrev IsUnsaid : Status → Type 0
+IsUnsaid (status.Usage fault) = Unit {0}
+IsUnsaid status.ReadFault = Unit {0}
+IsUnsaid status.Memory = Unit {0}
+IsUnsaid _ = ⊥
+
+unsaid : {A : Type 0} {tells : Type 0} (left : A → List ℕ) (faults : A → ℕ) (old new : A) (s : Status) → IsUnsaid s → HasCause (faults old) (faults new) (s ≡ status.ReadFault)
+    → ReadsScript tells left faults old new s
+unsaid left faults old new (status.Usage fault) says cause = record { refused = tt; in_script = λ t f e. tt; cause = cause; whole = λ t done. absurd done }
+unsaid left faults old new status.ReadFault says cause = record { refused = tt; in_script = λ t f e. tt; cause = cause; whole = λ t done. absurd done }
+unsaid left faults old new status.Memory says cause = record { refused = tt; in_script = λ t f e. tt; cause = cause; whole = λ t done. absurd done }
+unsaid left faults old new (status.Script fault) says cause = absurd says
+unsaid left faults old new status.AllOk says cause = absurd says
+unsaid left faults old new status.SomeFailed says cause = absurd says
+unsaid left faults old new status.WriteFault says cause = absurd says
+
+pub script-unsaid : {A : Type 0} {tells : Type 0} (left : A → List ℕ) (faults : A → ℕ) (old new : A) (s t : Status) → s ≡ t → IsUnsaid t
+    → HasCause (faults old) (faults new) (s ≡ status.ReadFault) → ReadsScript tells left faults old new s
+script-unsaid left faults old new s t is says cause = unsaid left faults old new s (subst IsUnsaid (sym is) says) cause

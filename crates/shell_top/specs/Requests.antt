@@ -1,9 +1,8 @@
 -- The requests of commands (MongoDB wire protocol, OP_MSG).
-use Rattle.std.specs.Prelude.{◌≡◌, ◌≢◌, ◌≤◌, ℕ, ◌+◌, ℤ, pos, All, List, [], ◌∷◌, Option, Some, None}
-use Rattle.bson_doc.specs.Documents.{depth_of}
+use Rattle.std.specs.Prelude.{◌≡◌, ◌≢◌, ℕ, ◌+◌, ℤ, pos, List, [], ◌∷◌, Option, Some, None}
 use Rattle.bson_doc.specs.declared.value.Document.{Document}
 use Rattle.msg_wire.specs.Framing.{frame}
-use Rattle.cmd_build.specs.Inserts.{doc_of, first_command}
+use Rattle.cmd_build.specs.Inserts.{first_command}
 use Rattle.cmd_build.specs.Sizes.{Excess, excess}
 use Rattle.cmd_build.specs.declared.command.Command.{Command}
 use Rattle.write_retry.specs.declared.outcome.Outcome.{Outcome}
@@ -42,7 +41,3 @@ AreShotsOf db id [] [] = Unit {0}
 AreShotsOf db id [] (shot ∷ shots) = ⊥
 AreShotsOf db id (command ∷ commands) [] = ⊥
 AreShotsOf db id (command ∷ commands) (shot ∷ shots) = IsShotOf db (pos id) command shot × AreShotsOf db (id + 1) commands shots
-
--- The documents of commands lie at most 90 levels deep, as those of a script do.
-abbrev pub AreShallow : List Command → Type 0
-AreShallow commands = All (λ c. depth_of (doc_of c.act) ≤ 90) commands

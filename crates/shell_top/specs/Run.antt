@@ -1,6 +1,7 @@
 -- What a run says by its status, its shots and its output.
 use Rattle.std.specs.Prelude.{◌≡◌, ◌<◌, ◌⊎◌, ℕ, Bool, true, false, List, [], ◌∷◌, ◌++◌, length, take, Result, Ok, Err}
 use Rattle.std.specs.List.{list_all}
+use Rattle.net_link.specs.Causes.{HasCause}
 use Rattle.net_link.specs.Prefix.{IsPrefixOf}
 use Rattle.net_link.specs.declared.event.NetEvent.{NetEvent}
 use Rattle.cmd_build.specs.declared.command.Command.{Command}
@@ -82,12 +83,6 @@ Shoots tells source db (status.Usage fault) shots = shots ≡ []
 Shoots tells source db (status.Script fault) shots = shots ≡ []
 Shoots tells source db status.ReadFault shots = shots ≡ []
 
--- The script's commands have one shot each, and so one line.
-pub record HasLineEach (tells : Type 0) (source : List ℕ) (shots : List Shot) : Type 0 where
-  pub commands : List Command
-  pub script : Tells tells source (Ok commands)
-  pub count : length shots ≡ length commands
-
 -- The shots' lines as the status tells them: all are ok, or one is not; there are none where nothing was dialled.
 abbrev pub all_ok : List Shot → Bool
 all_ok shots = list_all (λ s. is_ok s.outcome) shots
@@ -118,11 +113,34 @@ Writes (status.Script fault) shots old new = new ≡ old
 Writes status.ReadFault shots old new = new ≡ old
 Writes status.Memory shots old new = new ≡ old
 
--- Each command's request was sent at most once, in order, and nothing else was.
-pub record SendsEachOnce (tells : Type 0) (source db : List ℕ) (old new : List NetEvent) : Type 0 where
+-- Each command's request was sent at most once, to the address, in order, and nothing else was asked of the net.
+pub record SendsEachOnce (tells : Type 0) (source db address : List ℕ) (old new : List NetEvent) : Type 0 where
   pub commands : List Command
   pub script : Tells tells source (Ok commands)
-  pub once : AreSentOnce (requests db 1 commands) old new
+  pub once : AreSentOnce address (requests db 1 commands) old new
+
+-- What a run says of the script. The members are those of the source.
+-- A script that is at fault, and it alone, is refused, for its first fault (`refused`, `in_script`); a failure to read it is
+-- the source's (`cause`); where every command was shot, the script was read to its end (`whole`).
+pub record ReadsScript {A : Type 0} (tells : Type 0) (left : A → List ℕ) (faults : A → ℕ) (old new : A) (s : Status) : Type 0 where
+  pub refused : IsScripts tells (left old) s
+  pub in_script : tells → (fault : ScriptFault) → script_reading (left old) ≡ Err fault → Refuses fault s
+  pub cause : HasCause (faults old) (faults new) (s ≡ status.ReadFault)
+  pub whole : tells → IsDone s → left new ≡ []
+
+-- What a run says of its lines and its output. The members are those of the sink.
+-- The status is the lines' verdict (`verdict`), what was written is their report (`written`), and a failure to write it is
+-- the sink's (`cause`).
+pub record Reports {A : Type 0} (tells : Type 0) (written_to : A → List ℕ) (faults : A → ℕ) (old new : A) (s : Status) (shots : List Shot) : Type 0 where
+  pub verdict : Shows s shots
+  pub written : tells → Writes s shots (written_to old) (written_to new)
+  pub cause : HasCause (faults old) (faults new) (s ≡ status.WriteFault)
+
+-- What a run says of its requests to a host: each command of the script has one shot, in order, with the request that it
+-- asks for (`each`), and was sent at most once, to the host, whatever the status (`once`).
+pub record SendsRequests (source_tells : Type 0) (source db address : List ℕ) (net_tells : Type 0) (old new : List NetEvent) (s : Status) (shots : List Shot) : Type 0 where
+  pub each : Shoots source_tells source db s shots
+  pub once : net_tells → (new ≡ old) ⊎ SendsEachOnce source_tells source db address old new
 
 -- The number that the program ends with.
 -- own: as the statuses of the command line are told.

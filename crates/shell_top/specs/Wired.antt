@@ -1,6 +1,6 @@
 -- How shots, one command on one stream each, belong together with what the net told of them.
-use Rattle.std.specs.Prelude.{◌≡◌, ◌≢◌, ◌≤◌, ℕ, ◌+◌, ℤ, pos, ◌⊎◌, Bool, true, false, List, [], ◌∷◌, ◌++◌, Option, Some, None, All}
-use Rattle.net_link.specs.Causes.{Rose}
+use Rattle.std.specs.Prelude.{◌≡◌, ◌≢◌, ◌≤◌, ℕ, ◌+◌, ℤ, pos, ◌⊎◌, Bool, true, false, List, [], ◌∷◌, ◌++◌, Option, Some, None, All, IsTrue, count_by}
+use Rattle.net_link.specs.Causes.{count_of, Rose}
 use Rattle.net_link.specs.Events.{Adds, IsFresh, is_at}
 use Rattle.net_link.specs.Prefix.{IsPrefixOf}
 use Rattle.net_link.specs.Seen.{Seen, seen}
@@ -70,22 +70,19 @@ pub record AreWiredTo (address : List ℕ) (old new : List NetEvent) (done : Typ
   pub wired : AreWired address 1 old last shots
   pub all : done → new ≡ last
 
--- The event is no write.
-abbrev pub is_no_write : NetEvent → Bool
-is_no_write (event.Out stream bytes) = false
-is_no_write _ = true
+-- At most one request was sent, to the address: nothing was asked of the net, or one dial to the address, which failed; or
+-- all that was asked of it concerned one new stream, which was dialled to the address and closed, and whose bytes out are
+-- the request's, the last perhaps cut.
+pub data SendsOnce (address request : List ℕ) (old new : List NetEvent) : Type 0 where
+  nothing : Adds [] old new → SendsOnce address request old new
+  undialled : Adds (event.NoDial address ∷ []) old new → SendsOnce address request old new
+  on : (stream : ℕ) → IsFresh stream old → UsesOnly stream address old new → IsPrefixOf (seen stream new).out request → SendsOnce address request old new
 
--- At most one request was sent: either nothing was written, or all that was asked of the net concerned one new stream,
--- which was closed, and whose bytes out are the request's, the last perhaps cut.
-pub data SendsOnce (request : List ℕ) (old new : List NetEvent) : Type 0 where
-  none : (events : List NetEvent) → Adds events old new → All (λ e. is_no_write e ≡ true) events → SendsOnce request old new
-  on : (stream : ℕ) (address : List ℕ) → IsFresh stream old → UsesOnly stream address old new
-      → IsPrefixOf (seen stream new).out request → SendsOnce request old new
-
--- Each request was sent at most once, one after another, and nothing else was.
-abbrev pub AreSentOnce : List (List ℕ) → List NetEvent → List NetEvent → Type 0
-AreSentOnce [] old new = new ≡ old
-AreSentOnce (request ∷ requests) old new = (between : List NetEvent) × SendsOnce request old between × AreSentOnce requests between new
+-- Each request was sent at most once, to the address, one after another, and nothing else was asked of the net.
+abbrev pub AreSentOnce : List ℕ → List (List ℕ) → List NetEvent → List NetEvent → Type 0
+AreSentOnce address [] old new = new ≡ old
+AreSentOnce address (request ∷ requests) old new =
+    (between : List NetEvent) × SendsOnce address request old between × AreSentOnce address requests between new
 
 -- What the end of a shot says to the user; only an answer says more than its end.
 abbrev pub IsSaid : ShotEnd → Outcome → Type 0
@@ -99,21 +96,40 @@ IsSaid (end.Bad at) said = said ≡ outcome.BadReply at
 IsSaid end.TooLarge said = (size most : ℕ) × (said ≡ outcome.TooLarge size most)
 
 -- The end is one that only a failed call of the net brings.
-abbrev pub IsFailure : ShotEnd → Type 0
-IsFailure end.Fault = Unit {0}
-IsFailure end.NoDial = Unit {0}
-IsFailure _ = ⊥
+abbrev pub is_failure : ShotEnd → Bool
+is_failure end.Fault = true
+is_failure end.NoDial = true
+is_failure _ = false
+
+-- How many of the shots end by a failure.
+abbrev pub failure_count : List Shot → ℕ
+failure_count shots = count_by (λ s. is_failure s.end) shots
 
 -- How long a shot may take, in microseconds.
 -- own: the standard leaves the limit to the driver.
 abbrev pub LIMIT : ℕ
 LIMIT = 30000000
 
--- What holds of each shot, whether or not the net tells: what its end says; that a failure is the net's, whose faults
--- were so many before and are so many now; and that the clock showed its moments, a late one past the limit.
-pub record IsShot (shows : ℕ → Type 0) (before now : ℕ) (s : Shot) : Type 0 where
+-- What holds of each shot, whether or not the net tells: what its end says; and that the clock showed its moments, a late
+-- one past the limit.
+pub record IsShot (shows : ℕ → Type 0) (s : Shot) : Type 0 where
   pub said : IsSaid s.end s.outcome
-  pub cause : IsFailure s.end → Rose before now
   pub began : shows s.began
   pub ended : shows s.ended
   pub late : s.end ≡ end.TimedOut → s.began + LIMIT ≤ s.ended
+
+-- One shot with that id, to the address: a failure that it tells is one that the net counted, and its end is what the net
+-- told. The members are those of the net.
+pub record IsMade {A : Type 0} (shows : ℕ → Type 0) (address : List ℕ) (id : ℤ) (tells : Type 0) (history : A → List NetEvent) (faults : A → ℕ) (old new : A)
+    (s : Shot) : Type 0 where
+  pub shot : IsShot shows s
+  pub cause : IsTrue (is_failure s.end) → Rose (faults old) (faults new)
+  pub wired : tells → Wired address id (history old) (history new) s.request s.stream s.end s.outcome
+
+-- Shots to the address, one after another, with ids that count from 1: the failures that they tell are at most the faults
+-- that the net counted, unless its count stands at its end, and their ends are what the net told.
+pub record AreMade {A : Type 0} (shows : ℕ → Type 0) (address : List ℕ) (tells : Type 0) (history : A → List NetEvent) (faults : A → ℕ) (old new : A)
+    (done : Type 0) (shots : List Shot) : Type 0 where
+  pub each : All (IsShot shows) shots
+  pub cause : count_of (faults old + failure_count shots) ≤ faults new
+  pub wired : tells → AreWiredTo address (history old) (history new) done shots

@@ -1,5 +1,5 @@
 -- What the words of a command line ask for.
-use Rattle.std.specs.Prelude.{◌≡◌, ℕ, ◌==◌, ◌&&◌, ◌||◌, not, List, [], ◌∷◌, ◌++◌, length, codes, decimal, Bool, Result, Ok, Err, if◌then◌else◌, nat_le, is_some, position}
+use Rattle.std.specs.Prelude.{◌≡◌, ℕ, ◌==◌, ◌&&◌, ◌||◌, not, List, [], ◌∷◌, length, codes, Bool, Result, Ok, Err, if◌then◌else◌, nat_le, is_some, position}
 use Rattle.bson_doc.specs.Documents.{is_text}
 use Rattle.host_name.specs.Addresses.{Address}
 use Rattle.host_name.specs.Grammar.{is_in}
@@ -49,7 +49,3 @@ asks_of verb hosts set db =
 abbrev pub asks : List (List ℕ) → Result Asked UseFault
 asks (verb ∷ hosts ∷ set ∷ db ∷ []) = asks_of verb hosts set db
 asks _ = Err fault.Words
-
--- A host as it is displayed and dialled: name:port.
-abbrev pub address_of : Address → List ℕ
-address_of host = host.name ++ (58 ∷ decimal host.port)

@@ -2,45 +2,42 @@ ghost use Rattle.std.specs.Prelude.{◌≡◌, ◌≤◌, [], IfOk};
 ghost use Rattle.bson_doc.specs.Documents.{depth_of};
 ghost use Rattle.cmd_build.specs.Inserts.{doc_of};
 ghost use Rattle.shell_top.specs.Requests.{IsShotOf, request};
-ghost use Rattle.shell_top.specs.Wired.{IsShot, SendsOnce, Wired};
+ghost use Rattle.shell_top.specs.Wired.{IsMade, SendsOnce};
 
+use crate::context::{Context, Server};
 use crate::requests::request_of;
 use crate::shoot::shoot;
 use crate::shot::{Shot, ShotEnd};
 use bson_doc::{Memory, Rows};
 use cmd_build::{BuildFault, Command};
 use net_link::{Clock, Net};
-use std::alloc::{AllocError, Global};
+use std::alloc::AllocError;
 use std::sync::Wait;
 use write_retry::Outcome;
 
-/// Sends a command to the address, in a message with that id, and tells what came of it; what is too large is not sent.
+/// Sends a command to the server, in a message with that id, and tells what came of it; what is too large is not sent.
 pub fn attempt<R: Wait, N: Net, C: Clock>(
-    rt: &R,
-    alloc: Global,
+    context: &Context<'_, R, C>,
     net: &mut N,
-    clock: &C,
-    address: &str,
-    db: &str,
+    server: Server<'_>,
     command: &Command,
     id: i32,
 ) -> Result<Shot, Memory>
     requires { depth_of (doc_of command.now.act) ≤ 90 }
     ensures later { N.faults net.old ≤ N.faults net.new }
-    ensures command { IfOk result (IsShotOf db.now id command.now) }
-    ensures shot { IfOk result (IsShot C.shows (N.faults net.old) (N.faults net.new)) }
-    ensures wired { N.tells → IfOk result (λ s. Wired address.now id (N.history net.old) (N.history net.new) s.request s.stream s.end s.outcome) }
-    ensures once { N.tells → SendsOnce (request db.now id command.now) (N.history net.old) (N.history net.new) }
+    ensures command { IfOk result (IsShotOf server.entry.db.now id command.now) }
+    ensures made { IfOk result (IsMade C.shows server.entry.address.now id N.tells N.history N.faults net.old net.new) }
+    ensures once { N.tells → SendsOnce server.entry.address.now (request server.entry.db.now id command.now) (N.history net.old) (N.history net.new) }
 {
-    match request_of(alloc, command, db, id) {
-        Ok(request) => shoot(rt, alloc, net, clock, address, id, request),
-        Err(BuildFault::TooLarge { size, most }) => Ok(too_large(alloc, clock, size, most)),
+    match request_of(context.alloc, command, server.db, id) {
+        Ok(request) => shoot(context, net, server.address, id, request),
+        Err(BuildFault::TooLarge { size, most }) => Ok(too_large(context, size, most)),
         Err(BuildFault::Memory) => Err(AllocError),
     }
 }
 
 /// The shot of a command that is too large: nothing was asked of the net.
-fn too_large<C: Clock>(alloc: Global, clock: &C, size: u64, most: u64) -> Shot
+fn too_large<R: Wait, C: Clock>(context: &Context<'_, R, C>, size: u64, most: u64) -> Shot
     ensures stream { result.stream ≡ None }
     ensures request { result.request ≡ [] }
     ensures end { result.end ≡ ShotEnd.TooLarge }
@@ -50,9 +47,9 @@ fn too_large<C: Clock>(alloc: Global, clock: &C, size: u64, most: u64) -> Shot
 {
     Shot {
         stream: None,
-        request: Rows::new(alloc),
-        began: clock.now(),
-        ended: clock.now(),
+        request: Rows::new(context.alloc),
+        began: context.clock.now(),
+        ended: context.clock.now(),
         end: ShotEnd::TooLarge,
         outcome: Outcome::TooLarge { size, most },
     }

@@ -1,12 +1,13 @@
-ghost use Rattle.std.specs.Prelude.{◌≡◌, ◌≢◌, ◌≤◌, ◌+◌, Some, IfOk};
+ghost use Rattle.std.specs.Prelude.{◌≡◌, ◌≢◌, ◌≤◌, ◌+◌, IsTrue, Some, IfOk};
 ghost use Rattle.net_link.specs.Causes.{Rose};
 ghost use Rattle.net_link.specs.Seen.{seen, unseen};
 ghost use Rattle.desk_wire.specs.Fronts.{IsRefusal};
 ghost use Rattle.shell_top.specs.Conversation.{Concludes, ready, SendsOnly};
-ghost use Rattle.shell_top.specs.Wired.{IsFailure, IsSaid, LIMIT, Means, place_of};
+ghost use Rattle.shell_top.specs.Wired.{IsSaid, LIMIT, Means, is_failure, place_of};
 ghost use Rattle.write_retry.specs.declared.outcome.Outcome.TheVariants as outcome;
 ghost use Rattle.shell_top.specs.declared.shot.ShotEnd.TheVariants as end;
 
+use crate::context::Context;
 use crate::reply::read_reply;
 use crate::shot::ShotEnd;
 use bson_doc::{Bytes, Memory};
@@ -31,32 +32,37 @@ pub struct Ending {
     pub ended: u64,
 }
 
+/// A stream that was just dialled, and the clock's moment behind the dial.
+#[derive(Clone, Copy, Debug, PartialEq, Eq)]
+pub struct Opened {
+    pub stream: u64,
+    pub began: u64,
+}
+
 /// Sends the request, a message with that id, on a stream that was just dialled, and takes the reply.
 pub fn converse<R: Wait, N: Net, C: Clock>(
-    rt: &R,
-    alloc: Global,
+    context: &Context<'_, R, C>,
     net: &mut N,
-    clock: &C,
-    stream: u64,
-    began: u64,
+    on: Opened,
     id: i32,
     request: &[u8],
 ) -> Result<Ending, Memory>
-    requires open { N.is_open net.old stream }
-    requires unseen { N.tells → seen stream (N.history net.old) ≡ unseen }
-    ensures open { N.is_open net.new stream }
+    requires open { N.is_open net.old on.stream }
+    requires unseen { N.tells → seen on.stream (N.history net.old) ≡ unseen }
+    ensures open { N.is_open net.new on.stream }
     ensures later { N.faults net.old ≤ N.faults net.new }
     ensures sent { IfOk result (λ e. e.end ≢ end.TooLarge) }
     ensures said { IfOk result (λ e. IsSaid e.end e.outcome) }
-    ensures cause { IfOk result (λ e. IsFailure e.end → Rose (N.faults net.old) (N.faults net.new)) }
+    ensures cause { IfOk result (λ e. IsTrue (is_failure e.end) → Rose (N.faults net.old) (N.faults net.new)) }
     ensures shown { IfOk result (λ e. C.shows e.ended) }
-    ensures late { IfOk result (λ e. e.end ≡ end.TimedOut → began + LIMIT ≤ e.ended) }
-    ensures means { N.tells → IfOk result (λ e. Means id (seen stream (N.history net.new)) request.now e.end e.outcome) }
-    ensures sends { N.tells → SendsOnly stream request.now (N.history net.old) (N.history net.new) }
+    ensures late { IfOk result (λ e. e.end ≡ end.TimedOut → on.began + LIMIT ≤ e.ended) }
+    ensures means { N.tells → IfOk result (λ e. Means id (seen on.stream (N.history net.new)) request.now e.end e.outcome) }
+    ensures sends { N.tells → SendsOnly on.stream request.now (N.history net.old) (N.history net.new) }
 {
-    let mut wire = wire_of(alloc, stream, request)?;
-    let limit = began.saturating_add(LIMIT_MICROS);
-    match exchange(rt, alloc, net, &mut wire, clock, limit) {
+    let clock = context.clock;
+    let mut wire = wire_of(context.alloc, on.stream, request)?;
+    let limit = on.began.saturating_add(LIMIT_MICROS);
+    match exchange(context.rt, context.alloc, net, &mut wire, clock, limit) {
         Exchanged::Whole(message) => Ok(ending_by(clock, id, &message)),
         Exchanged::End => Ok(ending_now(clock, ShotEnd::Cut, Outcome::Network)),
         Exchanged::Fault => Ok(ending_now(clock, ShotEnd::Fault, Outcome::Network)),

@@ -1,5 +1,5 @@
 -- What a script that was read says of its commands: how many they are, and how deep their documents lie.
-use Rattle.std.proofs.Common.{◌≡◌, ℕ, ℤ, pos, negsuc, decimal, ◌^◌, ◌+◌, ◌<◌, ◌≤◌, max, Bool, true, false, ◌&&◌, codes, Option, Some, None, Result, Ok, Err, nat_lt, if◌then◌else◌, List, [], ◌∷◌, ◌++◌, length, take, map, refl, sym, ap, subst, ◌∙◌, arith, All, inl, inr}
+use Rattle.std.proofs.Common.{◌≡◌, ℕ, ℤ, pos, negsuc, decimal, ◌^◌, ◌+◌, ◌<◌, ◌≤◌, max, Bool, true, false, ◌&&◌, codes, Option, Some, None, Result, Ok, Err, IfOk, nat_lt, if◌then◌else◌, List, [], ◌∷◌, ◌++◌, length, take, map, refl, sym, ap, subst, ◌∙◌, arith, All, inl, inr}
 use Rattle.std.proofs.lemmas.Bool.{ltb-false, ltb-true, lt-ltb, cases_lt}
 use Rattle.std.proofs.lemmas.List.{append-nil, take-append-le, length-append}
 use Rattle.std.proofs.lemmas.List.Elements.{All-append, All-cons, All-nil}
@@ -23,8 +23,10 @@ use Rattle.script_text.specs.Scripts.{Reading, most_bytes, most_commands, read_l
 use Rattle.script_text.specs.declared.fault.ScriptFault.{ScriptFault}
 use Rattle.script_text.specs.declared.fault.ScriptKind.{ScriptKind}
 use Rattle.script_text.specs.declared.fault.ScriptKind.TheVariants as kind
-use Rattle.shell_top.specs.Requests.{AreShallow}
-use Rattle.shell_top.proofs.RequestLemmas.{depth_inside-layer, depth_inside-Doc}
+use Rattle.script_text.specs.declared.fault.ScriptRead.{ScriptRead}
+use Rattle.script_text.specs.Bounds.{IsBounded}
+use Rattle.script_text.specs.Taken.{Answers}
+use Rattle.script_text.proofs.DepthLemmas.{depth_inside-layer, depth_inside-Doc}
 
 -- ---- lists that are empty
 
@@ -184,18 +186,18 @@ lines_read : (text : List ℕ) (cs : List Command) → script_reading text ≡ O
 unfolding script_reading
 lines_read text cs e = read_script (nat_lt most_bytes (length text)) (fault_at (line_behind (take most_bytes text)) kind.Long) (lines_reading (lines_of text)) cs e
 
-pub commands-shallow : (text : List ℕ) (cs : List Command) → script_reading text ≡ Ok cs → AreShallow cs
-commands-shallow text cs e =
+-- The commands of a script that was read are few, and lie not deep.
+commands-bounded : (text : List ℕ) (cs : List Command) → script_reading text ≡ Ok cs → IsBounded cs
+commands-bounded text cs e =
     let parts = read_lines (commands_of (readings 1 (lines_of text))) cs (faults_of 0 (readings 1 (lines_of text))) (lines_read text cs e) in
-    subst (λ xs. All Shallow xs) parts.1 (readings-shallow 1 (lines_of text))
+    record {
+      few = omega (arith, ap length parts.1, few_commands 0 (readings 1 (lines_of text)) (omega arith) parts.0);
+      shallow = subst (λ xs. All Shallow xs) parts.1 (readings-shallow 1 (lines_of text));
+    }
 
-pub commands-few : (text : List ℕ) (cs : List Command) → script_reading text ≡ Ok cs → length cs ≤ 100000
-commands-few text cs e =
-    let parts = read_lines (commands_of (readings 1 (lines_of text))) cs (faults_of 0 (readings 1 (lines_of text))) (lines_read text cs e) in
-    omega (arith, ap length parts.1, few_commands 0 (readings 1 (lines_of text)) (omega arith) parts.0)
-
-pub shallow-as : (xs cs : List Command) → xs ≡ cs → AreShallow cs → AreShallow xs
-shallow-as xs cs same all = subst (λ ys. All Shallow ys) (sym same) all
+pub answers-bounded : (r : Result (List Command) ScriptRead) (bytes : List ℕ) → Answers r bytes → IfOk r IsBounded
+answers-bounded (Ok commands) bytes says = commands-bounded bytes commands says
+answers-bounded (Err stop) bytes says = tt
 
 -- What the bytes that were taken say is what all of the source says.
 long_reading : (text : List ℕ) → most_bytes < length text → script_reading text ≡ Err (fault_at (line_behind (take most_bytes text)) kind.Long)
@@ -210,4 +212,12 @@ reading-of_source bytes new whole =
           ∙ ap (λ (front : List ℕ). Err (fault_at (line_behind front) kind.Long)) (take-append-le most_bytes bytes new (omega arith))
           ∙ sym (long_reading bytes long)
       | inr short ↦ ap script_reading (ap (λ (xs : List ℕ). bytes ++ xs) (whole short) ∙ append-nil bytes)
+    ]
+
+-- A text that is read is not too long.
+pub read-short : (text : List ℕ) (cs : List Command) → script_reading text ≡ Ok cs → length text ≤ most_bytes
+read-short text cs e =
+    elim (cases_lt most_bytes (length text)) [
+      | inl long ↦ absurd (let refused = long_reading text long in let never : ⊥ = cc in never)
+      | inr short ↦ short
     ]

@@ -104,7 +104,12 @@ impl AvailableList {
 
     /// The first that has perished at the moment. Where none has, that is mostly known without a walk, and else from
     /// then on.
-    pub(crate) fn first_perished(&mut self, rules: PoolRules, generation: u64, moment: u64) -> Option<Available>
+    pub(crate) fn first_perished(
+        &mut self,
+        rules: PoolRules,
+        generation: u64,
+        moment: u64,
+    ) -> Option<Available>
         ensures found { result ≡ find (λ a. is_stale generation a.generation || is_idle rules a.since moment) self.old.items }
         ensures same { self.new ≡ self.old }
     {

@@ -28,7 +28,13 @@ pub fn shoot<R: Wait, N: Net, C: Clock>(
     match net.dial(address) {
         Dialed::Stream(stream) => {
             let began = context.clock.now();
-            let ending = converse(context, net, Opened { stream, began }, id, request.as_slice());
+            let ending = converse(
+                context,
+                net,
+                Opened { stream, began },
+                id,
+                request.as_slice(),
+            );
             net.close(stream);
             let ending = ending?;
             Ok(Shot {

@@ -38,7 +38,7 @@ const EIGHT_DIGITS: u32 = 10_000_000;
 
 /// What is measured.
 #[derive(Clone, Copy, Drop)]
-struct Measure {
+struct Asked {
     /// The names have one hash.
     equal: bool,
     /// The event is a broken connection.
@@ -90,12 +90,13 @@ fn measure(rt: &HostRuntime) -> Result<(), Trouble> {
         let nanos = u64::try_from(took.as_nanos()).unwrap_or(u64::MAX);
         best = best.min(nanos / u64::from(measure.rounds));
     }
-    let _ = println!(rt; "apply {best} {measure.count}");
+    let count = measure.count;
+    let _ = println!(rt; "apply {best} {count}");
     Ok(())
 }
 
 /// What the words ask for: 1 to 1,000 hosts, and at least one round.
-fn words(rt: &HostRuntime) -> Option<Measure>
+fn words(rt: &HostRuntime) -> Option<Asked>
     ensures rounds { IfSome result (λ m. m.rounds ≢ 0) }
     ensures hosts { IfSome result (λ m. m.count ≤ 1000) }
 {
@@ -107,7 +108,7 @@ fn words(rt: &HostRuntime) -> Option<Measure>
     if count < 1 || count > MOST_HOSTS || rounds == 0 {
         return None;
     }
-    Some(Measure {
+    Some(Asked {
         equal,
         broken,
         count,
@@ -124,7 +125,7 @@ fn chosen(word: &str, first: &str, second: &str) -> Option<bool> {
 }
 
 /// So many different hosts.
-fn hosts(alloc: Global, measure: Measure) -> Option<Rows<Host>>
+fn hosts(alloc: Global, measure: Asked) -> Option<Rows<Host>>
     requires { measure.count ≤ 1000 }
 {
     let mut hosts = Rows::new(alloc);
@@ -153,7 +154,7 @@ fn opened(alloc: Global, hosts: &[Host]) -> Option<Topology> {
 }
 
 /// The event of the first host.
-fn event(alloc: Global, measure: Measure, hosts: &[Host]) -> Option<TopoEvent> {
+fn event(alloc: Global, measure: Asked, hosts: &[Host]) -> Option<TopoEvent> {
     let first = hosts.first()?;
     if measure.broken {
         let host = first.copy(alloc).ok()?;

@@ -1,6 +1,6 @@
 //! Laws of framed messages, each the contract of a function that does nothing.
 
-ghost use Rattle.std.specs.Prelude.{◌≡◌, ◌≢◌, ◌↔◌, ◌<◌, ◌≤◌, ◌^◌, ℕ, ℤ, List, [], ◌∷◌, ◌++◌, length, take, false, Some, None, Ok, FitsSigned};
+ghost use Rattle.std.specs.Prelude.{◌≡◌, ◌≢◌, ◌↔◌, ◌<◌, ◌≤◌, ◌^◌, ℕ, ℤ, List, [], ◌++◌, length, take, false, Some, None, Ok, FitsSigned};
 ghost use Rattle.std.specs.Int.{w32};
 ghost use Rattle.bson_doc.specs.declared.value.Document.{Document};
 ghost use Rattle.bson_doc.specs.wire.Spelling.{Spells};

@@ -1,6 +1,6 @@
 //! The sections of a message.
 
-ghost use Rattle.std.specs.Prelude.{ℕ, ◌≡◌, ◌≤◌, ◌<◌, length, None, IfOk};
+ghost use Rattle.std.specs.Prelude.{ℕ, ◌≤◌, ◌<◌, length, None, IfOk};
 ghost use Rattle.msg_wire.specs.Sections.{closed_at, section_at, sections_at};
 ghost use Rattle.msg_wire.specs.Steps.{Gives};
 

@@ -1,6 +1,6 @@
 //! Sections of kind 1: document sequences.
 
-ghost use Rattle.std.specs.Prelude.{◌≡◌, ◌≤◌, ◌+◌, ◌<◌, ◌==◌, length, position, IfOk, IfErr};
+ghost use Rattle.std.specs.Prelude.{◌≤◌, ◌+◌, ◌<◌, length, IfOk};
 ghost use Rattle.bson_doc.specs.Names.{HasNoZero};
 ghost use Rattle.msg_wire.specs.Sections.{name_at, sequence_at, size_at, text_at};
 ghost use Rattle.msg_wire.specs.Steps.{Gives};
@@ -9,7 +9,7 @@ use crate::documents::{documents_of, place};
 use crate::fields::number;
 use crate::limits::{LEAST_SIZE, SIZE};
 use crate::{MsgFault, Sequence};
-use bson_doc::{Name, Text};
+use bson_doc::{Name, first_zero};
 use std::alloc::Global;
 use std::str;
 
@@ -24,7 +24,7 @@ pub fn sequence_of(alloc: Global, end: u32, bytes: &[u8]) -> Result<(Sequence, &
     let size = size_of(at, bytes)?;
     let (inside, after) = bytes.split_at(size);
     let (name, documents) = name_of(at, &inside[SIZE..])?;
-    let name = taken_name(alloc, name)?;
+    let name = Name::take(alloc, name)?;
     let docs = documents_of(alloc, place(end, after), documents)?;
     Ok((Sequence { name, docs }, after))
 }
@@ -60,13 +60,6 @@ fn name_of(at: u32, bytes: &[u8]) -> Result<(&str, &[u8]), MsgFault>
     Ok((name, &bytes[zero + 1..]))
 }
 
-/// Where the first 00 stands.
-fn first_zero(bytes: &[u8]) -> Option<usize>
-    ensures { result ≡ position (λ b. b == 0) bytes.now }
-{
-    bytes.iter().position(|b| *b == 0)
-}
-
 /// All of the bytes as a text of the section at the place.
 #[tactic(auto, using(crate::proofs::Names::texts))]
 fn text_of(at: u32, bytes: &[u8]) -> Result<&str, MsgFault>
@@ -76,14 +69,4 @@ fn text_of(at: u32, bytes: &[u8]) -> Result<&str, MsgFault>
         Ok(text) => Ok(text),
         Err(_) => Err(MsgFault::Sections { at }),
     }
-}
-
-/// A copy of a text that is a name.
-fn taken_name(alloc: Global, text: &str) -> Result<Name, MsgFault>
-    requires { HasNoZero text.now }
-    ensures ok { IfOk result (λ name. name ≡ text.now) }
-    ensures err { IfErr result (λ e. e ≡ MsgFault.Memory) }
-{
-    let text = Text::take(alloc, text)?;
-    Ok(Name::new(text).unwrap())
 }

@@ -1,5 +1,5 @@
 ghost use Rattle.std.specs.Prelude.{◌≡◌, ◌+◌, ◌≤◌, ◌<◌, [], ◌∷◌, ◌++◌, length, false, None, Err, IfOk, OnOk, IfErr};
-ghost use Rattle.std.specs.Int.{w32, cast_unsigned};
+ghost use Rattle.std.specs.Int.{cast_unsigned};
 ghost use Rattle.bson_doc.specs.Documents.{depth_of};
 ghost use Rattle.bson_doc.specs.wire.Limits.{most_levels};
 ghost use Rattle.bson_doc.specs.wire.Spelled.{number32};

@@ -6,4 +6,4 @@ use Rattle.msg_wire.proofs.sequences.name_of.Goals as goal
 
 pub returns-clause-no_zero : goal.returns-clause-no_zero
 returns-clause-no_zero c =
-    subst HasNoZero (text_at-Ok _ _ _ c.in_ok-name.ensures).0 (zero_parts c.args.bytes.now c.in-Some.zero (sym c.in-Some.ensures)).1
+    subst HasNoZero (text_at-Ok _ _ _ c.in_ok-name.ensures).0 (zero_parts c.args.bytes.now c.in-Some.zero (sym c.in-Some.ensures.first)).1

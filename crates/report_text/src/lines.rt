@@ -1,38 +1,77 @@
-ghost use Rattle.std.specs.Prelude.{◌≡◌, IfOk, string_bytes};
-ghost use Rattle.report_text.specs.Lines.{last_line, line, said};
+ghost use Rattle.std.specs.Prelude.{◌≡◌, ◌++◌, IfOk, codes, string_bytes};
+ghost use Rattle.std.specs.Fmt.{signed_decimal};
+ghost use Rattle.host_name.specs.Addresses.{address_text};
+ghost use Rattle.report_text.specs.Lines.{IsNamed, last_line, line, said};
 
-use bson_doc::{Memory, Text};
+use bson_doc::{Memory, Rows, Text};
+use host_name::Host;
 use std::alloc::Global;
 use write_retry::Outcome;
 
-/// A command's line: its number, counted from 1, its outcome and how many attempts it took.
-pub fn line(alloc: Global, number: u32, outcome: &Outcome, attempts: u32) -> Result<Text, Memory>
-    ensures { IfOk result (λ text. text ≡ line number outcome.now attempts) }
+/// A command's line: its number, counted from 1, its outcome and how many attempts it took. The host that the outcome
+/// names, where it names one, is a place of `names`.
+pub fn line(
+    alloc: Global,
+    number: u32,
+    outcome: &Outcome,
+    attempts: u32,
+    names: &Rows<Host>,
+) -> Result<Text, Memory>
+    requires named { IsNamed names.now outcome.now }
+    ensures text { IfOk result (λ text. text ≡ line names.now number outcome.now attempts) }
 {
-    let said = said(alloc, outcome)?;
+    let said = said(alloc, names.as_slice(), outcome)?;
     let line = format!(in alloc; "{number}: {said} attempts={attempts}\n")?;
     Text::take(alloc, line.as_str())
 }
 
 /// The last line: how many commands there are, and how many of them were carried out.
 pub fn last_line(alloc: Global, count: u32, ok: u32) -> Result<Text, Memory>
-    ensures { IfOk result (λ text. text ≡ last_line count ok) }
+    ensures text { IfOk result (λ text. text ≡ last_line count ok) }
 {
     let line = format!(in alloc; "done {count} ok {ok}\n")?;
     Text::take(alloc, line.as_str())
 }
 
 /// The outcome in words.
-fn said(alloc: Global, outcome: &Outcome) -> Result<String, Memory>
-    ensures { IfOk result (λ text. string_bytes text ≡ said outcome.now) }
+fn said(alloc: Global, names: &[Host], outcome: &Outcome) -> Result<String, Memory>
+    requires { IsNamed names.now outcome.now }
+    ensures { IfOk result (λ text. string_bytes text ≡ said names.now outcome.now) }
 {
     match outcome {
         Outcome::Ok { n, modified } => format!(in alloc; "ok n={n} modified={modified}"),
         Outcome::Error { code } => format!(in alloc; "error {code}"),
+        Outcome::WriteErrors { count, first } => format!(in alloc;
+            "write-errors {count} first={first}"
+        ),
+        Outcome::Concern { code } => format!(in alloc; "concern {code}"),
         Outcome::Network => String::from_str(alloc, "network"),
         Outcome::Late => String::from_str(alloc, "late"),
         Outcome::BadReply { at } => format!(in alloc; "bad-reply {at}"),
-        Outcome::Unbuilt => String::from_str(alloc, "unbuilt"),
+        Outcome::NoServer => String::from_str(alloc, "no-server"),
+        Outcome::Incompatible { host, min, max } => incompatible(
+            alloc,
+            &names[*host as usize],
+            *min,
+            *max,
+        ),
+        Outcome::PoolTimeout => String::from_str(alloc, "pool-timeout"),
+        Outcome::PoolCleared { generation } => format!(in alloc; "pool-cleared {generation}"),
+        Outcome::PoolClosed { host } => pool_closed(alloc, &names[*host as usize]),
         Outcome::TooLarge { size, most } => format!(in alloc; "too-large {size} {most}"),
     }
+}
+
+/// A server whose wire versions are others than this client's.
+fn incompatible(alloc: Global, host: &Host, min: i32, max: i32) -> Result<String, Memory>
+    ensures { IfOk result (λ text. string_bytes text ≡ codes "incompatible " ++ (address_text host.now ++ (codes " " ++ (signed_decimal min ++ (codes " " ++ signed_decimal max))))) }
+{
+    format!(in alloc; "incompatible {host} {min} {max}")
+}
+
+/// A server whose pool was closed.
+fn pool_closed(alloc: Global, host: &Host) -> Result<String, Memory>
+    ensures { IfOk result (λ text. string_bytes text ≡ codes "pool-closed " ++ address_text host.now) }
+{
+    format!(in alloc; "pool-closed {host}")
 }

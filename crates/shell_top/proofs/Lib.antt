@@ -1,4 +1,5 @@
 mod MeansLemmas
+mod ReplyLemmas
 mod ReportLemmas
 mod RequestLemmas
 mod RunLemmas

@@ -5,15 +5,15 @@ use Rattle.report_text.specs.Lines.{line, last_line}
 use Rattle.shell_top.specs.Report.{lines, ok_count, report}
 use Rattle.shell_top.specs.declared.shot.Shot.{Shot}
 
-lines_left : (ss : List Shot) (i : ℕ) (s : Shot) → i < length ss → s ≡ get_or ss i s → lines (i + 1) (drop i ss) ≡ line (i + 1) s.outcome 1 ++ lines (i + 1 + 1) (drop (i + 1) ss)
+lines_left : (ss : List Shot) (i : ℕ) (s : Shot) → i < length ss → s ≡ get_or ss i s → lines (i + 1) (drop i ss) ≡ line [] (i + 1) s.outcome 1 ++ lines (i + 1 + 1) (drop (i + 1) ss)
 lines_left ss i s lt is = ap (lines (i + 1)) (drop_more ss i s lt ∙ ap (λ t. t ∷ drop (i + 1) ss) (sym is))
 
 -- The line of one more shot.
-pub told_more : (text new whole : List ℕ) (ss : List Shot) (i : ℕ) (s : Shot) → i < length ss → s ≡ get_or ss i s → new ≡ text ++ line (i + 1) s.outcome 1
+pub told_more : (text new whole : List ℕ) (ss : List Shot) (i : ℕ) (s : Shot) → i < length ss → s ≡ get_or ss i s → new ≡ text ++ line [] (i + 1) s.outcome 1
     → text ++ lines (i + 1) (drop i ss) ≡ whole → new ++ lines (i + 1 + 1) (drop (i + 1) ss) ≡ whole
 told_more text new whole ss i s lt is more told =
     ap (λ (xs : List ℕ). xs ++ lines (i + 1 + 1) (drop (i + 1) ss)) more
-    ∙ append_assoc text (line (i + 1) s.outcome 1) (lines (i + 1 + 1) (drop (i + 1) ss))
+    ∙ append_assoc text (line [] (i + 1) s.outcome 1) (lines (i + 1 + 1) (drop (i + 1) ss))
     ∙ ap (λ (xs : List ℕ). text ++ xs) (sym (lines_left ss i s lt is))
     ∙ told
 

@@ -6,7 +6,8 @@ use Rattle.net_link.specs.Seen.{seen}
 use Rattle.net_link.specs.declared.event.NetEvent.{NetEvent}
 use Rattle.msg_wire.specs.declared.message.Message.{Message}
 use Rattle.desk_wire.specs.State.{opened, State}
-use Rattle.shell_top.specs.Reply.{Says}
+use Rattle.cmd_outcome.specs.Replies.{reading_of}
+use Rattle.write_retry.specs.Outcomes.{said_by}
 use Rattle.write_retry.specs.declared.outcome.Outcome.{Outcome}
 use Rattle.shell_top.specs.declared.shot.ShotEnd.{ShotEnd}
 use Rattle.shell_top.specs.declared.shot.ShotEnd.TheVariants as end
@@ -22,6 +23,6 @@ pub record SendsOnly (stream : ℕ) (request : List ℕ) (old new : List NetEven
 
 -- A message that came is the answer, or answers another request; its responseTo stands at place 8.
 abbrev pub Concludes : ℤ → Message → ShotEnd → Outcome → Type 0
-Concludes id message end.Replied said = (message.to ≡ id) × Says message.body said
+Concludes id message end.Replied said = (message.to ≡ id) × (said ≡ said_by (reading_of message.body).result)
 Concludes id message (end.Bad at) said = (message.to ≢ id) × (at ≡ 8)
 Concludes id message _ said = ⊥

@@ -1,6 +1,6 @@
 pub mod Asking
 pub mod Conversation
-pub mod Reply
+pub mod Replies
 pub mod Report
 pub mod Requests
 pub mod Run

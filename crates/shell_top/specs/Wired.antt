@@ -10,9 +10,11 @@ use Rattle.msg_wire.specs.Framing.{Framed}
 pub use Rattle.msg_wire.specs.Places.{AnswersAnother, IsFaultyAt, place_of}
 use Rattle.msg_wire.specs.declared.message.Message.{Message}
 use Rattle.desk_wire.specs.Fronts.{IsFront}
+use Rattle.cmd_outcome.specs.Replies.{reading_of}
+use Rattle.write_retry.specs.Outcomes.{said_by}
 use Rattle.write_retry.specs.declared.outcome.Outcome.{Outcome}
 use Rattle.write_retry.specs.declared.outcome.Outcome.TheVariants as outcome
-use Rattle.shell_top.specs.Reply.{Says}
+use Rattle.shell_top.specs.Replies.{IsReading}
 use Rattle.shell_top.specs.declared.shot.Shot.{Shot}
 use Rattle.shell_top.specs.declared.shot.ShotEnd.{ShotEnd}
 use Rattle.shell_top.specs.declared.shot.ShotEnd.TheVariants as end
@@ -22,7 +24,7 @@ pub record IsAnswer (id : ℤ) (came : List ℕ) (said : Outcome) : Type 0 where
   pub message : Message
   pub framed : Framed came message
   pub answers : message.to ≡ id
-  pub says : Says message.body said
+  pub says : said ≡ said_by (reading_of message.body).result
 
 -- What a shot's end says of its stream: of the bytes out, which are the request's, the last perhaps cut, and whole
 -- where an answer came; of the bytes that came; and of the cause.
@@ -86,8 +88,7 @@ AreSentOnce address (request ∷ requests) old new =
 
 -- What the end of a shot says to the user; only an answer says more than its end.
 abbrev pub IsSaid : ShotEnd → Outcome → Type 0
-IsSaid end.Replied said =
-    (said ≢ outcome.Network) × (said ≢ outcome.Late) × ((at : ℕ) → said ≢ outcome.BadReply at) × ((size most : ℕ) → said ≢ outcome.TooLarge size most)
+IsSaid end.Replied said = IsReading said
 IsSaid end.Cut said = said ≡ outcome.Network
 IsSaid end.Fault said = said ≡ outcome.Network
 IsSaid end.NoDial said = said ≡ outcome.Network

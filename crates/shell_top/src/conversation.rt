@@ -2,15 +2,18 @@ ghost use Rattle.std.specs.Prelude.{◌≡◌, ◌≢◌, ◌≤◌, ◌+◌, Is
 ghost use Rattle.net_link.specs.Causes.{Rose};
 ghost use Rattle.net_link.specs.Seen.{seen, unseen};
 ghost use Rattle.desk_wire.specs.Fronts.{IsRefusal};
+ghost use Rattle.cmd_outcome.specs.Replies.{reading_of};
 ghost use Rattle.shell_top.specs.Conversation.{Concludes, ready, SendsOnly};
+ghost use Rattle.shell_top.specs.Replies.{IsReading};
 ghost use Rattle.shell_top.specs.Wired.{IsSaid, LIMIT, Means, is_failure, place_of};
+ghost use Rattle.write_retry.specs.Outcomes.{said_by};
 ghost use Rattle.write_retry.specs.declared.outcome.Outcome.TheVariants as outcome;
 ghost use Rattle.shell_top.specs.declared.shot.ShotEnd.TheVariants as end;
 
 use crate::context::Context;
-use crate::reply::read_reply;
 use crate::shot::ShotEnd;
-use bson_doc::{Bytes, Memory};
+use bson_doc::{Bytes, Document, Memory};
+use cmd_outcome::classify;
 use desk_wire::{Exchanged, Wire, exchange};
 use msg_wire::{Message, MsgFault};
 use net_link::{Clock, Net};
@@ -132,4 +135,13 @@ fn ending_by<C: Clock>(clock: &C, id: i32, message: &Message) -> Ending
     } else {
         ending_bad(clock, RESPONSE_TO_AT)
     }
+}
+
+/// What the reply says.
+#[tactic(auto, using(crate::proofs::ReplyLemmas::replies_are_readings))]
+fn read_reply(reply: &Document) -> Outcome
+    ensures said { result ≡ said_by (reading_of reply.now).result }
+    ensures reading { IsReading result }
+{
+    Outcome::said_by(classify(reply).result)
 }

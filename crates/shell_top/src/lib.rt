@@ -8,13 +8,12 @@
 //!
 //! One command's way: `words` and `script_text` read what is asked for, `requests` builds the message, `attempt` makes
 //! the shot of it, `shoot` dials and closes the stream, `conversation` sends the request over a `desk_wire` and judges
-//! the reply, `reply` reads it, `sending` goes through the commands, `report` tells their lines.
+//! the reply, which `cmd_outcome` reads, `sending` goes through the commands, `report` tells their lines.
 #![tactic(auto)]
 
 mod attempt;
 mod context;
 mod conversation;
-mod reply;
 mod report;
 mod requests;
 mod running;

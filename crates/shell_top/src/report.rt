@@ -1,19 +1,21 @@
-ghost use Rattle.std.specs.Prelude.{◌≡◌, ◌≤◌, length, IfOk, string_bytes};
-ghost use Rattle.shell_top.specs.Report.{ok_count, report};
+ghost use Rattle.std.specs.Prelude.{◌≡◌, ◌≤◌, All, length, IfOk, string_bytes};
+ghost use Rattle.shell_top.specs.Report.{IsUnnamed, ok_count, report};
 
 use crate::shot::Shot;
-use bson_doc::Memory;
+use bson_doc::{Memory, Rows};
 use report_text::{last_line, line};
 use std::alloc::Global;
 
 /// The report of shots, one line each, and a last line that counts them.
 pub fn report_of(alloc: Global, shots: &[Shot]) -> Result<String, Memory>
-    requires { length shots.now ≤ 100000 }
+    requires bounded { length shots.now ≤ 100000 }
+    requires unnamed { All IsUnnamed shots.now }
     ensures { IfOk result (λ text. string_bytes text ≡ report shots.now) }
 {
+    let names = Rows::new(alloc);
     let mut text = String::new(alloc);
     for (place, shot) in shots.iter().enumerate() {
-        let line = line(alloc, place as u32 + 1, &shot.outcome, 1)?;
+        let line = line(alloc, place as u32 + 1, &shot.outcome, 1, &names)?;
         text.push_str(line.as_str())?;
     }
     let last = last_line(alloc, shots.len() as u32, count_ok(shots))?;

@@ -1,6 +1,7 @@
-ghost use Rattle.std.specs.Prelude.{◌≡◌, ◌≤◌, [], Ok, Err, length, take};
+ghost use Rattle.std.specs.Prelude.{◌≡◌, ◌≤◌, [], All, Ok, Err, length, take};
 ghost use Rattle.host_name.specs.Addresses.{address_text};
 ghost use Rattle.script_text.specs.Bounds.{IsBounded};
+ghost use Rattle.shell_top.specs.Report.{IsUnnamed};
 ghost use Rattle.shell_top.specs.Requests.{AreShotsOf, requests};
 ghost use Rattle.shell_top.specs.Run.{IsDone, IsIdle, IsReached, IsUsage, ReadsScript, Reports, SendsRequests, all_ok};
 ghost use Rattle.shell_top.specs.Wired.{AreMade, AreSentOnce};
@@ -146,7 +147,8 @@ fn before_all<N>(alloc: Global, net: N, status: Status) -> Ended<N>
 
 /// Writes the report of the shots.
 fn write_report<K: Sink>(alloc: Global, out: &mut K, shots: &[Shot]) -> Status
-    requires { length shots.now ≤ 100000 }
+    requires bounded { length shots.now ≤ 100000 }
+    requires unnamed { All IsUnnamed shots.now }
     ensures reached { IsReached result }
     ensures report { Reports K.tells K.written K.faults out.old out.new result shots.now }
 {

@@ -1,11 +1,10 @@
-ghost use Rattle.std.specs.Prelude.{◌≡◌, ◌==◌, ◌≤◌, Ok, codes, nat_le, is_some, length, position, not, ◌&&◌, IfOk, IfErr};
+ghost use Rattle.std.specs.Prelude.{◌≡◌, Ok, IfOk, IfErr};
 ghost use Rattle.host_name.specs.Grammar.{is_in};
 ghost use Rattle.shell_top.specs.Words.{are_in_form, asks, asks_of, is_later, is_name, is_short};
-ghost use Rattle.bson_doc.specs.Documents.{is_text};
 ghost use Rattle.shell_top.specs.Asking.{Stops};
 
 use crate::status::UseFault;
-use bson_doc::Text;
+use bson_doc::{Text, first_zero};
 use host_name::{Host, HostFault};
 use std::alloc::Global;
 
@@ -95,13 +94,6 @@ fn is_name(word: &str) -> bool
     ensures { result ≡ is_name word.now }
 {
     !word.is_empty() && first_zero(word.as_bytes()).is_none()
-}
-
-/// Where the first zero byte stands.
-fn first_zero(bytes: &[u8]) -> Option<usize>
-    ensures { result ≡ position (λ b. b == 0) bytes.now }
-{
-    bytes.iter().position(|b| *b == 0)
 }
 
 /// Whether there is more than one host, or a set's name.

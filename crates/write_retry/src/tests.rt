@@ -8,7 +8,17 @@ fn only_ok_is_a_success(rt: HostRuntime) {
         Outcome::Network,
         Outcome::Late,
         Outcome::BadReply { at: 0 },
-        Outcome::Unbuilt,
+        Outcome::NoServer,
+        Outcome::PoolTimeout,
+        Outcome::PoolCleared { generation: 0 },
+        Outcome::PoolClosed { host: 0 },
+        Outcome::Incompatible {
+            host: 0,
+            min: 0,
+            max: 12,
+        },
+        Outcome::WriteErrors { count: 1, first: 0 },
+        Outcome::Concern { code: 64 },
         Outcome::TooLarge { size: 2, most: 1 },
     ];
     for outcome in &others {

@@ -1,4 +1,7 @@
-use crate::Outcome;
+use crate::laws::{
+    a_second_server_is_selected_to_repeat, answers_are_verdicts, without_a_number_sent_once,
+};
+use crate::{AttemptEnd, Next, OpEvent, OpMachine, Outcome};
 
 #[test]
 fn only_ok_is_a_success(rt: HostRuntime) {
@@ -24,4 +27,24 @@ fn only_ok_is_a_success(rt: HostRuntime) {
     for outcome in &others {
         assert!(rt; !outcome.is_ok(), "{outcome:?}");
     }
+}
+
+/// A find, whose stream is cut, is answered at once.
+#[test]
+fn a_find_is_not_repeated(rt: HostRuntime) {
+    let mut machine = OpMachine::new(false, false);
+    assert_eq!(rt; machine.next(), Next::Select);
+    let chosen = OpEvent::Chosen {
+        host: 3,
+        numbered: true,
+    };
+    if machine.allows(&chosen) {
+        assert_eq!(rt; machine.on(chosen), Next::CheckOut { host: 3 });
+    }
+    let unsent = AttemptEnd::Cut;
+    assert!(rt; unsent.is_again() && !unsent.is_lesser());
+    assert_eq!(rt; unsent.said(), Outcome::Network);
+    answers_are_verdicts();
+    a_second_server_is_selected_to_repeat();
+    without_a_number_sent_once();
 }

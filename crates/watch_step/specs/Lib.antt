@@ -1,0 +1,5 @@
+pub mod Ends
+pub mod Checks
+pub mod Entries
+pub mod Inside
+pub mod Laws

@@ -1,5 +1,5 @@
 -- The checks of one server (Server Monitoring). Moments are microseconds.
-use Rattle.std.specs.Prelude.{ℕ, ◌+◌, max, min, Bool, true, false, Option, None, Some}
+use Rattle.std.specs.Prelude.{ℕ, ◌+◌, ◌^◌, ◌≤◌, max, min, Bool, true, false, Option, None, Some}
 
 -- The interval of checks; the moment at which a check is due; when the check that runs began; and when the last one ended.
 pub record Checks : Type 0 where
@@ -7,6 +7,11 @@ pub record Checks : Type 0 where
   pub due : ℕ
   pub began : Option ℕ
   pub ended : Option ℕ
+
+-- A moment that is there is at most the greatest one (own: so that no sum of moments passes a u64).
+abbrev pub IsInRange : Option ℕ → Type 0
+IsInRange None = Unit {0}
+IsInRange (Some moment) = moment ≤ 2 ^ 62
 
 -- A server's first check is due at once (Server Monitoring, servers are monitored as soon as they are discovered).
 abbrev pub first_check : ℕ → ℕ → Checks

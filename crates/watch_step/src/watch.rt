@@ -1,8 +1,7 @@
 ghost use Rattle.std.specs.Prelude.{◌≡◌, ◌≤◌, ◌+◌, ◌^◌, None, IsSome, is_some};
 ghost use Rattle.entry_judge.specs.Groups.{Goes};
-ghost use Rattle.watch_step.specs.Checks.{first_check, soonest_check};
+ghost use Rattle.watch_step.specs.Checks.{IsInRange, first_check, soonest_check};
 ghost use Rattle.watch_step.specs.Entries.{Asked, Began, Ended, checks_judge};
-ghost use Rattle.watch_step.specs.Inside.{IsPast};
 
 use std::marker::Model;
 
@@ -78,6 +77,7 @@ impl Watch {
     /// When the check that runs began; None where none runs.
     pub fn began(&self) -> Option<u64>
         ensures began { result ≡ self.now.began }
+        ensures bound { IsInRange result }
     {
         self.began
     }
@@ -117,7 +117,7 @@ impl Watch {
 /// The soonest moment for a check that is asked for at a moment.
 fn soonest(ended: Option<u64>, moment: u64) -> u64
     requires moment { moment ≤ 2 ^ 62 }
-    requires ended { IsPast ended }
+    requires ended { IsInRange ended }
     ensures { result ≡ soonest_check ended moment }
 {
     match ended {

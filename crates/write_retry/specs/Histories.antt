@@ -66,6 +66,16 @@ look_from tried (e ∷ es) = look_from true es
 abbrev pub last_look : List OpEvent → LastLook
 last_look es = look_from false es
 
+-- No server was looked for since the beginning, or since the last end of an attempt.
+abbrev pub unlooked_from : Bool → List OpEvent → Bool
+unlooked_from unlooked [] = unlooked
+unlooked_from unlooked (event.Chosen host numbered ∷ es) = unlooked_from false es
+unlooked_from unlooked (event.NoServer ∷ es) = unlooked_from false es
+unlooked_from unlooked (event.Incompatible host min max ∷ es) = unlooked_from false es
+unlooked_from unlooked (event.Lent ∷ es) = unlooked_from unlooked es
+unlooked_from unlooked (event.Sent ∷ es) = unlooked_from unlooked es
+unlooked_from unlooked (e ∷ es) = unlooked_from true es
+
 -- The command's answer, where it has one.
 abbrev pub answer_in : Next → Option Outcome
 answer_in (next.Answer o) = Some o

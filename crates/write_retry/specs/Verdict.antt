@@ -94,6 +94,12 @@ verdict drew (first ∷ []) look = verdict_of_one (again drew first) first look
 verdict drew (first ∷ second ∷ []) look = verdict_of_two (again drew first) (is_lesser second) first second look
 verdict drew attempts look = None
 
+-- A further server may be selected: behind no attempt, and behind one that may be repeated.
+abbrev pub more : Bool → List AttemptEnd → Bool
+more drew [] = true
+more drew (first ∷ []) = again drew first
+more drew attempts = false
+
 -- What two attempts come to, of which the first may be repeated.
 abbrev pub given : AttemptEnd → AttemptEnd → Outcome
 given first second = if is_lesser second then said first else said second

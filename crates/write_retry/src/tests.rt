@@ -1,5 +1,6 @@
 use crate::laws::{
-    a_second_server_is_selected_to_repeat, answers_are_verdicts, without_a_number_sent_once,
+    a_second_server_is_selected_to_repeat, a_server_is_selected_where_one_more_may_be,
+    answers_are_verdicts, without_a_number_sent_once,
 };
 use crate::{AttemptEnd, Next, OpEvent, OpMachine, Outcome};
 
@@ -45,6 +46,7 @@ fn a_find_is_not_repeated(rt: HostRuntime) {
     assert!(rt; unsent.is_again() && !unsent.is_lesser());
     assert_eq!(rt; unsent.said(), Outcome::Network);
     answers_are_verdicts();
+    a_server_is_selected_where_one_more_may_be();
     a_second_server_is_selected_to_repeat();
     without_a_number_sent_once();
 }

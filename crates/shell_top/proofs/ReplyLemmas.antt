@@ -14,11 +14,11 @@ use Rattle.shell_top.specs.declared.shot.Shot.{Shot}
 use Rattle.shell_top.specs.declared.shot.ShotEnd.{ShotEnd}
 use Rattle.shell_top.specs.declared.shot.ShotEnd.TheVariants as end
 
-pub replies-are-readings : (r : ReplyResult) → IsReading (said_by r)
-replies-are-readings (reply.Ok n modified) = search
-replies-are-readings (reply.WriteErrors count first) = search
-replies-are-readings (reply.Concern code) = search
-replies-are-readings (reply.Error code) = search
+pub replies_are_readings : (r : ReplyResult) → IsReading (said_by r)
+replies_are_readings (reply.Ok n modified) = search
+replies_are_readings (reply.WriteErrors count first) = search
+replies_are_readings (reply.Concern code) = search
+replies_are_readings (reply.Error code) = search
 
 named-readings : (o : Outcome) → IsReading o → IsNamed [] o
 named-readings (outcome.Ok n modified) r = search

@@ -1,8 +1,9 @@
-ghost use Rattle.std.specs.Prelude.{◌≡◌, ◌≤◌, All, length, IfOk, string_bytes};
+ghost use Rattle.std.specs.Prelude.{◌≡◌, ◌≤◌, [], All, length, IfOk, string_bytes};
+ghost use Rattle.report_text.specs.Lines.{line};
 ghost use Rattle.shell_top.specs.Report.{IsUnnamed, ok_count, report};
 
 use crate::shot::Shot;
-use bson_doc::{Memory, Rows};
+use bson_doc::{Memory, Rows, Text};
 use report_text::{last_line, line};
 use std::alloc::Global;
 
@@ -12,15 +13,22 @@ pub fn report_of(alloc: Global, shots: &[Shot]) -> Result<String, Memory>
     requires unnamed { All IsUnnamed shots.now }
     ensures { IfOk result (λ text. string_bytes text ≡ report shots.now) }
 {
-    let names = Rows::new(alloc);
     let mut text = String::new(alloc);
     for (place, shot) in shots.iter().enumerate() {
-        let line = line(alloc, place as u32 + 1, &shot.outcome, 1, &names)?;
+        let line = line_of(alloc, place as u32 + 1, shot)?;
         text.push_str(line.as_str())?;
     }
     let last = last_line(alloc, shots.len() as u32, count_ok(shots))?;
     text.push_str(last.as_str())?;
     Ok(text)
+}
+
+/// The line of a shot, which took one attempt and names no host.
+fn line_of(alloc: Global, number: u32, shot: &Shot) -> Result<Text, Memory>
+    requires { IsUnnamed shot.now }
+    ensures { IfOk result (λ text. text ≡ line [] number shot.now.outcome 1) }
+{
+    line(alloc, number, &shot.outcome, 1, &Rows::new(alloc))
 }
 
 /// How many of the shots' lines are ok.

@@ -6,7 +6,7 @@ pub loop-place-preserved : goal.loop-place-preserved
 loop-place-preserved c =
     let before = string_bytes c.loop-place.text in
     told_more before _ _ c.args.shots.now c.loop-place.place c.index-shots-place.result (omega arith) c.index-shots-place.is
-    (c.in_ok-push_str.ensures.bytes ∙ ap (λ (xs : List ℕ). before ++ xs) (c.as_str.ensures.value ∙ c.in_ok-line.ensures.text)) c.loop-place.invariant
+    (c.in_ok-push_str.ensures.bytes ∙ ap (λ (xs : List ℕ). before ++ xs) (c.as_str.ensures.value ∙ c.in_ok-line.ensures)) c.loop-place.invariant
 
 pub returns : goal.returns
 returns c =

@@ -1,5 +1,5 @@
 -- How deep the documents of commands lie.
-use Rattle.std.proofs.Common.{◌≡◌, ℕ, ℤ, ◌+◌, ◌≤◌, max, pos, true, false, Bool, None, Some, Option, List, [], ◌∷◌, ◌++◌, map, All, codes, if◌then◌else◌, refl, ap, ◌∙◌, arith}
+use Rattle.std.proofs.Common.{◌≡◌, ℕ, ℤ, ◌+◌, ◌≤◌, max, pos, true, false, Bool, None, Some, Option, List, [], ◌∷◌, ◌++◌, map, codes, if◌then◌else◌, refl, ap, ◌∙◌, arith}
 use Rattle.std.specs.Option.{option_copied, option_map}
 use Rattle.std.proofs.lemmas.List.Elements.{All-head, All-tail}
 use Rattle.bson_doc.specs.Documents.{depth_of, depth_inside, greatest, value_step, document_step}
@@ -9,11 +9,11 @@ use Rattle.bson_doc.specs.declared.value.Document.{Document}
 use Rattle.bson_doc.specs.declared.value.Value.{Value, Value-F, Array, Doc, map-Value, out-Value, fold_out-Value}
 use Rattle.bson_doc.specs.declared.value.Value.TheVariants as value
 use Rattle.bson_doc.specs.declared.value.Value.TheVariants.{outs-Binary, outs-Bool, outs-Doc, outs-Int32, outs-Int64, outs-Str}
-use Rattle.bson_doc.proofs.Depths.{depth_of-elements, depth_inside-Array, greatest-map}
+use Rattle.bson_doc.proofs.Depths.{depth_of-elements, depth_inside-Array}
 use Rattle.read_pref.specs.Modes.{name_of}
 use Rattle.read_pref.specs.declared.mode.Mode.{Mode}
 use Rattle.read_pref.specs.declared.tag.Tag.{Tag}
-use Rattle.cmd_build.specs.Commands.{Field, act_fields, command_document, command_fields, concern_of, db_of, delete_statement, given, majority, modification, number_of, preference_document, preference_of, sent_mode, sent_tags, session, session_of, tag_document, tag_field, tag_sets_field, tag_value, time_of, update_statement}
+use Rattle.cmd_build.specs.Commands.{Field, act_fields, command_document, concern_of, db_of, delete_statement, given, majority, modification, number_of, preference_document, preference_of, sent_mode, sent_tags, session, session_of, tag_document, tag_field, tag_sets_field, tag_value, time_of, update_statement}
 use Rattle.cmd_build.specs.Ops.{writes}
 use Rattle.cmd_build.specs.Sizes.{IsWithin, levels_of_time}
 use Rattle.cmd_build.specs.declared.command.Act.{Act}

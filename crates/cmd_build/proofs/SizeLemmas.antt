@@ -6,7 +6,6 @@ use Rattle.std.proofs.lemmas.List.{drop_more, length-append}
 use Rattle.std.specs.Option.{option_copied, option_map, option_or}
 use Rattle.bson_doc.specs.declared.cluster_time.ClusterTime.{ClusterTime}
 use Rattle.bson_doc.specs.declared.ids.Lsid.{Lsid}
-use Rattle.bson_doc.specs.declared.name.Name.{Name}
 use Rattle.bson_doc.specs.declared.value.Document.{Document}
 use Rattle.bson_doc.specs.declared.value.Value.{Value, Array, Doc}
 use Rattle.bson_doc.specs.declared.value.Value.TheVariants as value
@@ -20,7 +19,7 @@ use Rattle.read_pref.specs.declared.mode.Mode.{Mode}
 use Rattle.read_pref.specs.declared.tag.Tag.{Tag}
 use Rattle.cmd_build.specs.Commands.{Field, act_fields, command_document, concern_of, db_of, delete_statement, given, majority, modification, number_of, preference_document, preference_of, sent_mode, sent_tags, session, session_of, tag_document, tag_field, tag_sets_field, tag_value, time_of, update_statement}
 use Rattle.cmd_build.specs.Ops.{writes}
-use Rattle.cmd_build.specs.Sizes.{Excess, documents_of, excess, first_over, message_size, over}
+use Rattle.cmd_build.specs.Sizes.{documents_of, excess, first_over, message_size, over}
 use Rattle.cmd_build.specs.declared.command.Act.{Act}
 use Rattle.cmd_build.specs.declared.command.Act.TheVariants as act
 use Rattle.cmd_build.specs.declared.command.Command.{Command}

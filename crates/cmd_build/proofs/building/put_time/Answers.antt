@@ -1,4 +1,3 @@
-use Rattle.std.proofs.Common.{◌≡◌, length, List, true, sym, ap, ◌∙◌, arith}
 use Rattle.cmd_build.proofs.building.put_time.Goals as goal
 
 pub returns-in_ok-put : goal.returns-in_ok-put

@@ -1,4 +1,4 @@
-use Rattle.std.proofs.Common.{◌≡◌, length, List, true, sym, ap, ◌∙◌, arith}
+use Rattle.std.proofs.Common.{arith}
 use Rattle.cmd_build.proofs.SizeLemmas.{length-modification, length-removal}
 use Rattle.cmd_build.proofs.sizes.size_of_modification.Goals as goal
 

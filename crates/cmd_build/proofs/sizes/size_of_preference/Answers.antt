@@ -1,4 +1,4 @@
-use Rattle.std.proofs.Common.{◌≡◌, length, List, true, sym, ap, ◌∙◌, arith}
+use Rattle.std.proofs.Common.{length, List, sym, ap, ◌∙◌, arith}
 use Rattle.read_pref.specs.declared.tag.Tag.{Tag}
 use Rattle.cmd_build.specs.Commands.{tag_sets_field}
 use Rattle.cmd_build.proofs.SizeLemmas.{fields_length, length-preference}

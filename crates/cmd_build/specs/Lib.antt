@@ -1,2 +1,4 @@
-pub mod Inserts
+pub mod Commands
+pub mod Handshakes
+pub mod Ops
 pub mod Sizes

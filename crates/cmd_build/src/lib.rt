@@ -1,19 +1,32 @@
-//! Commands of the CRUD specification, as a client asks for them: which collection, and what to do with it.
+//! Commands, and the documents that they send (CRUD; Find, getMore and killCursors; Driver Sessions; Stable API).
 //!
 //! A [`Command`] names its collection, a database where it is not the client's own, the lane that runs it, and its
-//! [`Act`]. [`build_first`] gives the document that it sends (MongoDB, insert command), or says by how much it is too
-//! large.
+//! [`Act`]. [`build`] gives the document that it sends, with the [`Extras`] of its session and its server, or says by how
+//! much it is larger than the server's [`Sizes`]. [`hello`] and [`farewell`] are the documents that no command asks for:
+//! what a check or a greeting sends, and what ends sessions.
+//!
+//! `specs/Commands.antt` has each document as the list of its pairs, a line each.
 #![tactic(auto)]
 
+mod act_fields;
+mod building;
 mod command;
+mod extras;
 mod fault;
-mod first;
+mod handshakes;
+mod op;
+mod parts;
+mod preference;
+mod sizes;
 #[cfg(test)]
 mod tests;
 
-pub use command::{Act, Command};
+pub use building::build;
+pub use command::{Act, Command, is_retryable, is_write};
+pub use extras::{Extras, Sizes};
 pub use fault::BuildFault;
-pub use first::build_first;
+pub use handshakes::{farewell, hello};
+pub use op::Op;
 
 /// Want of memory, the error of calls that can fail in no other way.
 pub type Memory = std::alloc::AllocError;

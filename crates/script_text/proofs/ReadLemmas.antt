@@ -15,7 +15,7 @@ use Rattle.bson_text.specs.Flaws.{flaws, item_flaws, member_flaws, name_flaws, u
 use Rattle.bson_text.specs.Reading.{reading, unless_flawed}
 use Rattle.bson_text.specs.declared.flaw.Flaw.{Flaw}
 use Rattle.bson_text.specs.declared.fault.TextFault.{TextFault}
-use Rattle.cmd_build.specs.Inserts.{doc_of}
+use Rattle.cmd_build.specs.Sizes.{IsWithin}
 use Rattle.cmd_build.specs.declared.command.Command.{Command}
 use Rattle.script_text.specs.Commands.{command_from, command_with, insert_with, lane_in, coll_in, db_in, doc_in, lane_number, has_known, is_insert, text_in, line_reading, says_of, parsed}
 use Rattle.script_text.specs.Lines.{lines_of, is_blank, line_behind}
@@ -108,14 +108,14 @@ reading-shallow (object ms) d e =
 -- ---- so do the documents of commands
 
 abbrev IsShallow : Result Command ScriptKind → Type 0
-IsShallow (Ok command) = depth_of (doc_of command.act) ≤ 90
+IsShallow (Ok command) = IsWithin 90 command.act
 IsShallow (Err kind) = Unit {0}
 
 insert_with-shallow : (lane : Option ℕ) (coll : List ℕ) (db : Option (List ℕ)) (r : Result Document TextFault) → ((d : Document) → r ≡ Ok d → depth_of d ≤ 90)
     → IsShallow (insert_with lane coll db r)
 insert_with-shallow None coll db r h = tt
 insert_with-shallow (Some lane) coll db (Err e) h = tt
-insert_with-shallow (Some lane) coll db (Ok doc) h = h doc refl
+insert_with-shallow (Some lane) coll db (Ok doc) h = All-cons (λ d. depth_of d ≤ 90) doc [] (h doc refl) (All-nil (λ d. depth_of d ≤ 90))
 
 command_with-shallow : (lane : Option Num) (coll : Option (List ℕ)) (db : Option (Option (List ℕ))) (doc : Option Data) → IsShallow (command_with lane coll db doc)
 command_with-shallow None coll db doc = tt
@@ -137,7 +137,7 @@ says_of-shallow None = tt
 says_of-shallow (Some d) = command_from-shallow d
 
 abbrev Shallow : Command → Type 0
-Shallow c = depth_of (doc_of c.act) ≤ 90
+Shallow c = IsWithin 90 c.act
 
 command_in-shallow : (r : Result Command ScriptKind) → IsShallow r → All Shallow (command_in r)
 command_in-shallow (Ok command) h = All-cons Shallow command [] h (All-nil Shallow)

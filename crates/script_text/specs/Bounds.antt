@@ -1,7 +1,6 @@
 -- How many commands a script has, and how deep their documents lie.
 use Rattle.std.specs.Prelude.{ℕ, ◌≤◌, All, List, length}
-use Rattle.bson_doc.specs.Documents.{depth_of}
-use Rattle.cmd_build.specs.Inserts.{doc_of}
+use Rattle.cmd_build.specs.Sizes.{IsWithin}
 use Rattle.cmd_build.specs.declared.command.Command.{Command}
 use Rattle.script_text.specs.Scripts.{most_commands}
 
@@ -9,4 +8,4 @@ use Rattle.script_text.specs.Scripts.{most_commands}
 -- own: a document's text nests no deeper, so that the commands around it may nest to the bounds of BSON.
 pub record IsBounded (commands : List Command) : Type 0 where
   pub few : length commands ≤ most_commands
-  pub shallow : All (λ c. depth_of (doc_of c.act) ≤ 90) commands
+  pub shallow : All (λ c. IsWithin 90 c.act) commands

@@ -452,8 +452,10 @@ fn shown_commands(alloc: Global, commands: &[Command]) -> Result<String, AllocEr
             Some(db) => db.as_str(),
             None => "-",
         };
-        let Act::Insert { doc } = &command.act;
-        let size = doc.elements.len();
+        let size = match &command.act {
+            Act::Insert { doc } => doc.elements.len(),
+            _ => 0,
+        };
         let lane = command.lane;
         let coll = command.coll.as_str();
         shown.push_str(format!(in alloc; "{lane} {db} {coll} {size};")?.as_str())?;

@@ -2,8 +2,8 @@
 use Rattle.std.specs.Prelude.{◌≡◌, ◌≢◌, ℕ, ◌+◌, ℤ, pos, List, [], ◌∷◌, Option, Some, None}
 use Rattle.bson_doc.specs.declared.value.Document.{Document}
 use Rattle.msg_wire.specs.Framing.{frame}
-use Rattle.cmd_build.specs.Inserts.{first_command}
-use Rattle.cmd_build.specs.Sizes.{Excess, excess}
+use Rattle.cmd_build.specs.Commands.{command_document, no_extras}
+use Rattle.cmd_build.specs.Sizes.{Excess, excess as excess_of, usual_sizes}
 use Rattle.cmd_build.specs.declared.command.Command.{Command}
 use Rattle.write_retry.specs.declared.outcome.Outcome.{Outcome}
 use Rattle.write_retry.specs.declared.outcome.Outcome.TheVariants as outcome
@@ -16,9 +16,17 @@ abbrev pub bytes_of : Option Excess → ℤ → Document → List ℕ
 bytes_of None id document = frame id (pos 0) 0 document
 bytes_of (Some e) id document = []
 
+-- What a command's document is, without a session, a read preference and a cluster time.
+abbrev pub document_of : Command → List ℕ → Document
+document_of command db = command_document command db no_extras None
+
+-- What is too large of it, by the sizes that servers take unless they say otherwise.
+abbrev pub excess : Command → List ℕ → Option Excess
+excess command db = excess_of command db no_extras None usual_sizes
+
 -- What a command sends, to a server's database of that name.
 abbrev pub request : List ℕ → ℤ → Command → List ℕ
-request db id command = bytes_of (excess command db) id (first_command command db)
+request db id command = bytes_of (excess command db) id (document_of command db)
 
 -- The requests of commands in order, with ids that count from this one.
 abbrev pub requests : List ℕ → ℕ → List Command → List (List ℕ)

@@ -1,6 +1,5 @@
 ghost use Rattle.std.specs.Prelude.{◌≡◌, ◌≤◌, [], IfOk};
-ghost use Rattle.bson_doc.specs.Documents.{depth_of};
-ghost use Rattle.cmd_build.specs.Inserts.{doc_of};
+ghost use Rattle.cmd_build.specs.Sizes.{IsWithin};
 ghost use Rattle.shell_top.specs.Requests.{IsShotOf, request};
 ghost use Rattle.shell_top.specs.Wired.{IsMade, SendsOnce};
 
@@ -23,7 +22,7 @@ pub fn attempt<R: Wait, N: Net, C: Clock>(
     command: &Command,
     id: i32,
 ) -> Result<Shot, Memory>
-    requires { depth_of (doc_of command.now.act) ≤ 90 }
+    requires { IsWithin 90 command.now.act }
     ensures later { N.faults net.old ≤ N.faults net.new }
     ensures command { IfOk result (IsShotOf server.entry.db.now id command.now) }
     ensures made { IfOk result (IsMade C.shows server.entry.address.now id N.tells N.history N.faults net.old net.new) }

@@ -1,23 +1,21 @@
-ghost use Rattle.std.specs.Prelude.{◌≡◌, ◌≢◌, ◌≤◌, None, IfOk, IfErr, OnOk};
-ghost use Rattle.bson_doc.specs.Documents.{depth_of};
-ghost use Rattle.cmd_build.specs.Inserts.{doc_of};
-ghost use Rattle.cmd_build.specs.Sizes.{Tells, excess};
-ghost use Rattle.shell_top.specs.Requests.{request};
+ghost use Rattle.std.specs.Prelude.{◌≡◌, None, IfOk, IfErr, OnOk};
+ghost use Rattle.cmd_build.specs.Sizes.{IsWithin, Tells};
+ghost use Rattle.shell_top.specs.Requests.{excess, request};
 
 use bson_doc::Bytes;
 use bson_wire::EncodeFault;
-use cmd_build::{BuildFault, Command, build_first};
+use cmd_build::{BuildFault, Command, Extras, Sizes, build};
 use msg_wire::write;
 use std::alloc::Global;
 
 /// The bytes that a command sends, to a server's database of that name, in a message with that id.
 pub fn request_of(alloc: Global, command: &Command, db: &str, id: i32) -> Result<Bytes, BuildFault>
-    requires { depth_of (doc_of command.now.act) ≤ 90 }
+    requires { IsWithin 90 command.now.act }
     ensures asks { IfOk result (λ bytes. bytes ≡ request db.now id command.now) }
     ensures fits { OnOk result (excess command.now db.now ≡ None) }
     ensures too_large { IfErr result (λ fault. Tells fault (excess command.now db.now)) }
 {
-    let document = match build_first(alloc, command, db) {
+    let document = match build(alloc, command, db, &Extras::none(), None, Sizes::usual()) {
         Ok(document) => document,
         Err(fault) => return Err(fault),
     };

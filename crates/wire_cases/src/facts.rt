@@ -9,10 +9,10 @@
 use crate::faults::{push_bson_fault, push_bytes, push_encode_fault};
 use crate::frames::Frame;
 use crate::messages::message_fact;
-use crate::shown::push_elements;
 use crate::state::State;
 use bson_doc::{Bytes, Document};
 use bson_wire::{EncodeFault, decode, encode};
+use case_documents::push_elements;
 use case_files::{CaseFault, Memory};
 use msg_wire::write;
 use std::alloc::Global;

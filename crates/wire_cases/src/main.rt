@@ -1,19 +1,16 @@
 //! The program `wire_cases`: case files of `bson_wire` and `msg_wire`, the bytes of documents and of messages.
 //!
 //! `wire_cases FILE..` runs the files as `case_files` says. Its steps are those of [`steps`], and their facts those of
-//! [`facts`]. Bytes are written in hexadecimal, two digits each, with blanks between them; documents as [`documents`] says.
+//! [`facts`]. Bytes are written in hexadecimal, two digits each, with blanks between them; documents as `case_documents` says.
 #![tactic(auto)]
 
-mod documents;
 mod facts;
 mod faults;
 mod frames;
 mod levels;
 mod messages;
-mod shown;
 mod state;
 mod steps;
-mod values;
 
 use case_files::run_files;
 use state::State;

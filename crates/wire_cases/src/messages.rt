@@ -1,7 +1,7 @@
 use crate::facts::{elements, written};
 use crate::faults::{push_bytes, push_msg_fault};
 use crate::frames::Frame;
-use crate::shown::push_elements;
+use case_documents::push_elements;
 use case_files::{CaseFault, Memory};
 use msg_wire::{Message, MsgFault, need, read};
 use std::alloc::Global;

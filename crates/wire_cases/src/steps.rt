@@ -8,10 +8,10 @@
 //! - `message [total=N] [code=N] [flags=HEX] HEX..` are those of a message with id 7 to the id 1 and these sections, whose
 //!   length is that of its bytes where no total is given;
 //! - `deep LEVELS` are those of a message whose document has so many levels, each under the empty name.
-use crate::documents::document;
 use crate::frames::{Frame, deep, message, number};
 use crate::levels::{levels, wrapped};
 use crate::state::State;
+use case_documents::document;
 use case_files::{CaseFault, Words, hex_bytes, parsed};
 use std::alloc::Global;
 

@@ -1,7 +1,7 @@
 use Rattle.std.proofs.Common.{◌≡◌, ap, arith, length, pos, to_z, of_z, w32}
 use Rattle.bson_doc.specs.Documents.{depth_of}
 use Rattle.bson_wire.specs.Spelled.{spelled}
-use Rattle.shell_top.proofs.RequestLemmas.{refused_bit-0, depth_of-first_command, length-frame, fits}
+use Rattle.shell_top.proofs.RequestLemmas.{refused_bit-0, depth_of-document_of, length-frame, fits}
 use Rattle.shell_top.proofs.requests.request_of.Goals as goal
 
 pub write-requires-clause-known : goal.write-requires-clause-known
@@ -9,7 +9,7 @@ write-requires-clause-known c = refused_bit-0
 
 pub unreachable-requires : goal.unreachable-requires
 unreachable-requires c =
-    omega (arith, ap depth_of c.in-Ok.ensures.built, depth_of-first_command c.args.command.now c.args.db.now, c.requires, c.in-Err-Deep.ensures.deep c.in-Err-Deep.field-0-is)
+    omega (arith, ap depth_of c.in-Ok.ensures.built, depth_of-document_of c.args.command.now c.args.db.now c.requires, c.in-Err-Deep.ensures.deep c.in-Err-Deep.field-0-is)
 
 pub unreachable-requires-in-Err-Long : goal.unreachable-requires-in-Err-Long
 unreachable-requires-in-Err-Long c =

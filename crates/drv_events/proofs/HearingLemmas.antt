@@ -1,8 +1,8 @@
-use Rattle.std.proofs.Common.{◌≡◌, ℕ, List, [], ◌∷◌, ◌++◌, Bool, true, false, not, refl, sym, ap, ◌∙◌, subst}
-use Rattle.std.specs.Prelude.{filter, cond}
+use Rattle.std.proofs.Common.{◌≡◌, List, [], ◌∷◌, Bool, not, refl, ap, ◌∙◌, subst}
+use Rattle.std.specs.Prelude.{cond}
 use Rattle.std.specs.List.Retain.{RetainsInTurn}
 use Rattle.drv_events.specs.declared.event.Event.{Event}
-use Rattle.drv_events.specs.Hearing.{Hears, AllHear, Delivered}
+use Rattle.drv_events.specs.Hearing.{Hears, Delivered}
 
 module _ {S C : Type 0} (heard : S → List Event) (leaves : S → Bool) (e : Event) (R : C → S → Bool → C → S → Type 0) (f : C)
     (says : (x : S) (b : Bool) (g : C) (y : S) → R f x b g y → Hears e (heard x) (heard y) (leaves y) × ((b ≡ not (leaves y)) × (g ≡ f))) where

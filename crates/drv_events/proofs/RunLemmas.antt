@@ -2,7 +2,7 @@ use Rattle.std.proofs.Common.{◌≡◌, ℕ, ◌+◌, List, [], ◌∷◌, ◌+
 use Rattle.std.proofs.lemmas.List.{map-append, append_assoc, append-nil, length-append}
 use Rattle.std.specs.Prelude.{filter}
 use Rattle.drv_events.specs.declared.event.Event.{Event}
-use Rattle.drv_events.specs.Hearing.{Hears, AllHear, Delivered}
+use Rattle.drv_events.specs.Hearing.{Hears, AllHear}
 use Rattle.drv_events.specs.Runs.{Act, Adds, Tells, told, added, AreAmong, lists_of_added, lists_of, HeardSince, Leads}
 
 -- a list is among itself, what is among some of these is among these, and both may go on alike

@@ -15,9 +15,16 @@ use Rattle.bson_text.specs.Flaws.{flaws, item_flaws, member_flaws, name_flaws, u
 use Rattle.bson_text.specs.Reading.{reading, unless_flawed}
 use Rattle.bson_text.specs.declared.flaw.Flaw.{Flaw}
 use Rattle.bson_text.specs.declared.fault.TextFault.{TextFault}
-use Rattle.cmd_build.specs.Sizes.{IsWithin}
 use Rattle.cmd_build.specs.declared.command.Command.{Command}
-use Rattle.script_text.specs.Commands.{command_from, command_with, insert_with, lane_in, coll_in, db_in, doc_in, lane_number, has_known, is_insert, text_in, line_reading, says_of, parsed}
+use Rattle.cmd_build.specs.Sizes.{IsWithin, each}
+use Rattle.cmd_build.specs.declared.op.Op.{Op}
+use Rattle.cmd_build.specs.declared.op.Op.TheVariants as op
+use Rattle.script_text.specs.Commands.{act_in, command_from, head_in, if_read, in_lane, line_reading, need, parsed, reading_if, says_of, with}
+use Rattle.script_text.specs.Members.{has_members_of}
+use Rattle.script_text.specs.Reads.{read_at}
+use Rattle.script_text.specs.Values.{all_at, change_at, flag_at, object_at, op_in}
+use Rattle.script_text.specs.declared.head.Head.{Head}
+use Rattle.script_text.specs.declared.member.Member.TheVariants as line
 use Rattle.script_text.specs.Lines.{lines_of, is_blank, line_behind}
 use Rattle.script_text.specs.Scripts.{Reading, most_bytes, most_commands, read_line, readings, command_in, commands_of, fault_at, line_faults, faults_of, unless_faulty, lines_reading, script_reading}
 use Rattle.script_text.specs.declared.fault.ScriptFault.{ScriptFault}
@@ -111,18 +118,53 @@ abbrev IsShallow : Result Command ScriptKind → Type 0
 IsShallow (Ok command) = IsWithin 90 command.act
 IsShallow (Err kind) = Unit {0}
 
-insert_with-shallow : (lane : Option ℕ) (coll : List ℕ) (db : Option (List ℕ)) (r : Result Document TextFault) → ((d : Document) → r ≡ Ok d → depth_of d ≤ 90)
-    → IsShallow (insert_with lane coll db r)
-insert_with-shallow None coll db r h = tt
-insert_with-shallow (Some lane) coll db (Err e) h = tt
-insert_with-shallow (Some lane) coll db (Ok doc) h = All-cons (λ d. depth_of d ≤ 90) doc [] (h doc refl) (All-nil (λ d. depth_of d ≤ 90))
+need-shallow : {A : Type 0} (o : Option A) (f : A → Result Command ScriptKind) → ((x : A) → IsShallow (f x)) → IsShallow (need o f)
+need-shallow None f h = tt
+need-shallow (Some x) f h = h x
 
-command_with-shallow : (lane : Option Num) (coll : Option (List ℕ)) (db : Option (Option (List ℕ))) (doc : Option Data) → IsShallow (command_with lane coll db doc)
-command_with-shallow None coll db doc = tt
-command_with-shallow (Some lane) None db doc = tt
-command_with-shallow (Some lane) (Some coll) None doc = tt
-command_with-shallow (Some lane) (Some coll) (Some db) None = tt
-command_with-shallow (Some lane) (Some coll) (Some db) (Some doc) = insert_with-shallow (lane_number lane) coll db (reading doc) (reading-shallow doc)
+in_lane-shallow : (o : Option ℕ) (f : ℕ → Result Command ScriptKind) → ((n : ℕ) → IsShallow (f n)) → IsShallow (in_lane o f)
+in_lane-shallow None f h = tt
+in_lane-shallow (Some n) f h = h n
+
+with-shallow : {A : Type 0} (r : Result A TextFault) (f : A → Result Command ScriptKind) → ((x : A) → r ≡ Ok x → IsShallow (f x)) → IsShallow (with r f)
+with-shallow (Err e) f h = tt
+with-shallow (Ok x) f h = h x refl
+
+abbrev Fits : Document → Type 0
+Fits d = depth_of d ≤ 90
+
+one-fits : (d : Document) (ds : List Document) → Fits d → All Fits ds → All Fits (d ∷ ds)
+one-fits d ds h all = All-cons Fits d ds h all
+
+if_read-shallow : (d : Data) (r : Result Document TextFault) (c : Option Document) → ((x : Document) → r ≡ Ok x → Fits x) → if_read r ≡ Ok c → All Fits (each c)
+if_read-shallow d (Err e) c h q = absurd (let never : ⊥ = cc in never)
+if_read-shallow d (Ok x) None h q = absurd (let never : ⊥ = cc in never)
+if_read-shallow d (Ok x) (Some y) h q = one-fits y [] (let same : x ≡ y = cc in subst Fits same (h x refl)) (All-nil Fits)
+
+reading_if-shallow : (o : Option Data) (c : Option Document) → reading_if o ≡ Ok c → All Fits (each c)
+reading_if-shallow None None q = All-nil Fits
+reading_if-shallow None (Some y) q = absurd (let never : ⊥ = cc in never)
+reading_if-shallow (Some d) c q = if_read-shallow d (reading d) c (reading-shallow d) q
+
+act_in-shallow : (o : Op) (h : Head) (d : Data) → IsShallow (act_in o h d)
+act_in-shallow op.Insert h d =
+    need-shallow (object_at line.Doc d) _ (λ doc. in_lane-shallow h.lane _ (λ lane.
+    with-shallow (reading doc) _ (λ x e. one-fits x [] (reading-shallow doc x e) (All-nil Fits))))
+act_in-shallow op.Update h d =
+    need-shallow (object_at line.Filter d) _ (λ filter. need-shallow (object_at line.Change d) _ (λ change.
+    need-shallow (flag_at line.Multi d) _ (λ multi. need-shallow (flag_at line.Upsert d) _ (λ upsert. in_lane-shallow h.lane _ (λ lane.
+    with-shallow (reading filter) _ (λ x e. with-shallow (reading change) _ (λ y f.
+    one-fits x (y ∷ []) (reading-shallow filter x e) (one-fits y [] (reading-shallow change y f) (All-nil Fits)))))))))
+act_in-shallow op.Delete h d =
+    need-shallow (object_at line.Filter d) _ (λ filter. need-shallow (all_at d) _ (λ all. in_lane-shallow h.lane _ (λ lane.
+    with-shallow (reading filter) _ (λ x e. one-fits x [] (reading-shallow filter x e) (All-nil Fits)))))
+act_in-shallow op.FindAndModify h d =
+    need-shallow (object_at line.Filter d) _ (λ filter. need-shallow (change_at d) _ (λ change. in_lane-shallow h.lane _ (λ lane.
+    with-shallow (reading filter) _ (λ x e. with-shallow (reading_if change) _ (λ y f.
+    one-fits x (each y) (reading-shallow filter x e) (reading_if-shallow change y f))))))
+act_in-shallow op.Find h d =
+    need-shallow (object_at line.Filter d) _ (λ filter. need-shallow (read_at d) _ (λ read. in_lane-shallow h.lane _ (λ lane.
+    with-shallow (reading filter) _ (λ x e. one-fits x [] (reading-shallow filter x e) (All-nil Fits)))))
 
 choice-shallow : (t : Bool) (r : Result Command ScriptKind) → IsShallow r → IsShallow (if t then r else Err kind.Shape)
 choice-shallow true r h = h
@@ -130,7 +172,8 @@ choice-shallow false r h = tt
 
 command_from-shallow : (d : Data) → IsShallow (command_from d)
 unfolding command_from
-command_from-shallow d = choice-shallow (has_known d && is_insert (text_in (codes "op") d)) (command_with (lane_in d) (coll_in d) (db_in d) (doc_in d)) (command_with-shallow (lane_in d) (coll_in d) (db_in d) (doc_in d))
+command_from-shallow d =
+    need-shallow (op_in d) _ (λ o. choice-shallow (has_members_of o d) _ (need-shallow (head_in d) _ (λ h. act_in-shallow o h d)))
 
 says_of-shallow : (found : Option Data) → IsShallow (says_of found)
 says_of-shallow None = tt

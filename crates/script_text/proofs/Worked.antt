@@ -4,7 +4,8 @@ use Rattle.serde_json.specs.Data.{unsigned, Data, number, string, object, no_mem
 use Rattle.cmd_build.specs.declared.command.Command.{Command}
 use Rattle.cmd_build.specs.declared.command.Act.TheVariants.{Insert}
 use Rattle.script_text.specs.declared.fault.ScriptKind.TheVariants as kind
-use Rattle.script_text.specs.Commands.{is_known, lane_number, command_from}
+use Rattle.script_text.specs.Commands.{command_from}
+use Rattle.script_text.specs.Values.{lane_number}
 use Rattle.script_text.specs.Lines.{lines_of, line_behind}
 use Rattle.script_text.specs.Scripts.{fault_at, faults_of, script_reading}
 
@@ -31,15 +32,15 @@ insert_in n =
     object (member (codes "coll") (string (codes "a")) (member (codes "doc") (object no_members) (member (codes "lane") (number (unsigned n)) (member (codes "op") (string (codes "insert")) no_members))))
 
 in_lane_1 : command_from (insert_in 1) ≡ Ok (record { lane = 1; db = None; coll = codes "a"; act = Insert (record { elements = [] }) })
-unfolding command_from is_known
+unfolding command_from
 in_lane_1 = refl
 
 in_lane_0 : command_from (insert_in 0) ≡ Err kind.Lane
-unfolding command_from is_known
+unfolding command_from
 in_lane_0 = refl
 
 without_a_lane : command_from (object (member (codes "coll") (string (codes "a")) (member (codes "op") (string (codes "insert")) no_members))) ≡ Err kind.Shape
-unfolding command_from is_known
+unfolding command_from
 without_a_lane = refl
 
 -- one command too many, on line 7

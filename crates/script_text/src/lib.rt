@@ -20,15 +20,20 @@
 //! last value, is `serde_json`'s definition (`Read.read`), which contracts here cite and do not judge.
 #![tactic(auto)]
 
+mod acts;
 mod command;
 mod fault;
+mod head;
 mod line;
 mod lines;
+mod member;
+mod reads;
 mod script;
 mod stop;
 mod taking;
 #[cfg(test)]
 mod tests;
+mod values;
 
 pub use fault::{ScriptFault, ScriptKind, ScriptRead};
 pub use script::read_script;

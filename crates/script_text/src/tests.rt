@@ -11,7 +11,7 @@ const LINE: &str = r#"{"lane":1,"op":"insert","coll":"a","doc":{}}"#;
 
 /// Scripts of one line, and the answer to each: the lane, database, collection and number of elements of its command, or
 /// the number of the line and what is wrong with it.
-const LINES: [(&str, &str); 98] = [
+const LINES: [(&str, &str); 94] = [
     // Whole commands.
     (
         r#"{"lane":1,"op":"insert","coll":"a","doc":{"_id":7}}"#,
@@ -93,24 +93,8 @@ const LINES: [(&str, &str); 98] = [
         r#"{"lane":1,"op":"insert","coll":"a","doc":1.5}"#,
         "1 shape",
     ),
-    // Acts that are not read yet, and no acts.
+    // No commands. The other commands stand in the case files of `script_cases`.
     (r#"{"lane":1,"op":"update","coll":"a","doc":{}}"#, "1 shape"),
-    (
-        r#"{"lane":1,"op":"update","coll":"a","filter":{},"change":{}}"#,
-        "1 shape",
-    ),
-    (
-        r#"{"lane":1,"op":"delete","coll":"a","filter":{}}"#,
-        "1 shape",
-    ),
-    (
-        r#"{"lane":1,"op":"findAndModify","coll":"a","filter":{}}"#,
-        "1 shape",
-    ),
-    (
-        r#"{"lane":1,"op":"find","coll":"a","filter":{}}"#,
-        "1 shape",
-    ),
     (r#"{"lane":1,"op":"Insert","coll":"a","doc":{}}"#, "1 shape"),
     (
         r#"{"lane":1,"op":"inserts","coll":"a","doc":{}}"#,

@@ -1,0 +1,20 @@
+//! The program `event_cases`: case files of `drv_events`, who hears which of a client's events.
+//!
+//! `event_cases FILE..` runs the files as `case_files` says. Its steps are those of [`steps`], and their facts those of
+//! [`facts`].
+#![tactic(auto)]
+
+mod events;
+mod facts;
+mod recorder;
+mod state;
+mod steps;
+
+use case_files::run_files;
+use state::State;
+use std::io;
+use std::process::ExitCode;
+
+fn main(rt: HostRuntime) -> io::Result<ExitCode> {
+    run_files(&rt, &mut State::opened(rt.alloc()))
+}

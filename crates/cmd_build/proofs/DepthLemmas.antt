@@ -1,5 +1,5 @@
 -- How deep the documents of commands lie.
-use Rattle.std.proofs.Common.{◌≡◌, ℕ, ℤ, ◌+◌, ◌≤◌, max, pos, true, false, Bool, None, Some, Option, List, [], ◌∷◌, ◌++◌, map, All, codes, if◌then◌else◌, refl, ap, ◌∙◌, arith}
+use Rattle.std.proofs.Common.{◌≡◌, ℕ, ℤ, ◌+◌, ◌≤◌, max, pos, true, false, Bool, None, Some, Option, List, [], ◌∷◌, ◌++◌, map, codes, if◌then◌else◌, refl, ap, ◌∙◌, arith}
 use Rattle.std.specs.Option.{option_copied, option_map}
 use Rattle.std.proofs.lemmas.List.Elements.{All-head, All-tail}
 use Rattle.bson_doc.specs.Documents.{depth_of, depth_inside, greatest, value_step, document_step}
@@ -9,11 +9,11 @@ use Rattle.bson_doc.specs.declared.value.Document.{Document}
 use Rattle.bson_doc.specs.declared.value.Value.{Value, Value-F, Array, Doc, map-Value, out-Value, fold_out-Value}
 use Rattle.bson_doc.specs.declared.value.Value.TheVariants as value
 use Rattle.bson_doc.specs.declared.value.Value.TheVariants.{outs-Binary, outs-Bool, outs-Doc, outs-Int32, outs-Int64, outs-Str}
-use Rattle.bson_doc.proofs.Depths.{depth_of-elements, depth_inside-Array, greatest-map}
+use Rattle.bson_doc.proofs.Depths.{depth_of-elements, depth_inside-Array}
 use Rattle.read_pref.specs.Modes.{name_of}
 use Rattle.read_pref.specs.declared.mode.Mode.{Mode}
 use Rattle.read_pref.specs.declared.tag.Tag.{Tag}
-use Rattle.cmd_build.specs.Commands.{Field, act_fields, command_document, command_fields, concern_of, db_of, delete_statement, given, majority, modification, number_of, preference_document, preference_of, sent_mode, sent_tags, session, session_of, tag_document, tag_field, tag_sets_field, tag_value, time_of, update_statement}
+use Rattle.cmd_build.specs.Commands.{Field, act_fields, command_document, concern_of, db_of, delete_statement, given, majority, modification, number_of, preference_document, preference_of, sent_mode, sent_tags, session, session_of, tag_document, tag_field, tag_sets_field, tag_value, time_of, update_statement}
 use Rattle.cmd_build.specs.Ops.{writes}
 use Rattle.cmd_build.specs.Sizes.{IsWithin, levels_of_time}
 use Rattle.cmd_build.specs.declared.command.Act.{Act}
@@ -157,31 +157,26 @@ inside-time : (time : Option ClusterTime) → inside (given (codes "$clusterTime
 inside-time None = refl
 inside-time (Some time) = rw (depth_inside-Doc time.body) (omega arith)
 
+-- Six parts one after another.
+inside-parts : (a b c d e f : List Field) → inside (a ++ b ++ c ++ d ++ e ++ f) ≡ max (max (max (max (max (inside a) (inside b)) (inside c)) (inside d)) (inside e)) (inside f)
+inside-parts a b c d e f = omega (arith, inside-append (a ++ b ++ c ++ d ++ e) f, inside-append (a ++ b ++ c ++ d) e, inside-append (a ++ b ++ c) d, inside-append (a ++ b) c, inside-append a b)
+
+inside-middle : (db : List ℕ) (es : List Field) → inside ((codes "apiVersion", value.Str (codes "1")) ∷ (codes "$db", value.Str db) ∷ es) ≡ inside es
+inside-middle db es = omega (arith, depth_inside-Str (codes "1"), depth_inside-Str db)
+
 -- A command has at most three levels around its documents, one around its cluster time, and four with its read preference.
 pub depth_of-command_document : (levels : ℕ) (c : Command) (db : List ℕ) (extras : Extras) (time : Option ClusterTime) → IsWithin levels c.act
     → depth_of (command_document c db extras time) ≤ max 4 (max (levels + 3) (levels_of_time time + 1))
 depth_of-command_document levels c db extras time within =
-    let front = act_fields c.coll c.act in
-    let concern = given (codes "writeConcern") (concern_of c.act) in
     let preference = given (codes "$readPreference") (preference_of c.act extras) in
-    let lsid = given (codes "lsid") (session_of extras.lsid) in
-    let number = given (codes "txnNumber") (number_of extras.number) in
-    let last = given (codes "$clusterTime") (time_of time) in
-    let behind = (codes "apiVersion", value.Str (codes "1")) ∷ (codes "$db", value.Str (db_of c.db db)) ∷ (preference ++ lsid ++ number ++ last) in
-    let lasts = inside-append number last in
-    let ids = inside-append lsid (number ++ last) in
-    let reads = inside-append preference (lsid ++ number ++ last) in
-    let concerns = inside-append concern behind in
-    let fronts = inside-append front (concern ++ behind) in
-    let late = behind_inside (inside preference) (inside lsid) (inside number) (inside last) _ _ _ reads ids lasts in
+    let parts = inside-parts (act_fields c.coll c.act) (given (codes "writeConcern") (concern_of c.act))
+    ((codes "apiVersion", value.Str (codes "1")) ∷ (codes "$db", value.Str (db_of c.db db)) ∷ preference)
+    (given (codes "lsid") (session_of extras.lsid)) (given (codes "txnNumber") (number_of extras.number)) (given (codes "$clusterTime") (time_of time)) in
+    let whole = depth_of-elements (command_document c db extras time) ∙ ap (λ n. 1 + n) parts in
     omega (
       arith,
-      depth_of-elements (command_document c db extras time),
-      fronts,
-      concerns,
-      late,
-      depth_inside-Str (codes "1"),
-      depth_inside-Str (db_of c.db db),
+      whole,
+      inside-middle (db_of c.db db) preference,
       inside-act_fields levels c.coll c.act within,
       inside-concern (writes c.act),
       inside-preference (sent_tags c.act (option_copied extras.read)) (sent_mode c.act extras.mode),
@@ -189,6 +184,3 @@ depth_of-command_document levels c db extras time within =
       inside-number extras.number,
       inside-time time,
     )
-  where
-    behind_inside : (p l n t a b d : ℕ) → a ≡ max p b → b ≡ max l d → d ≡ max n t → a ≡ max (max p l) (max n t)
-    behind_inside p l n t a b d e f g = omega (arith, e, f, g)

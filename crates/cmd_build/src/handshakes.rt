@@ -36,7 +36,8 @@ fn put_admin(alloc: Global, command: &mut Document) -> Result<(), Memory>
     ensures { OnOk result (command.new.elements ≡ command.old.elements ++ admin_fields) }
 {
     command.put(alloc, "apiVersion", text(alloc, "1")?)?;
-    command.put(alloc, "$db", text(alloc, "admin")?)
+    command.put(alloc, "$db", text(alloc, "admin")?)?;
+    Ok(())
 }
 
 /// Who is asking.

@@ -14,12 +14,11 @@ mod command;
 mod extras;
 mod fault;
 mod handshakes;
+pub mod laws;
 mod op;
 mod parts;
 mod preference;
 mod sizes;
-#[cfg(test)]
-mod tests;
 
 pub use building::build;
 pub use command::{Act, Command, is_retryable, is_write};

@@ -17,11 +17,11 @@ use read_pref::{Tag, TagSet};
 /// How many bytes a document has beside its elements (bsonspec 1.1, document): its total in front, and 00 behind.
 const AROUND_ELEMENTS: u64 = 5;
 
+/// How many bytes a binary has beside its own (bsonspec 1.1, binary): their number in front, and the subtype.
+const AROUND_BINARY: u64 = 5;
+
 /// How many bytes a message has beside its document: a header of sixteen, four of flags, the section's kind.
 const AROUND_DOCUMENT: u64 = 21;
-
-/// How many bytes the payload of a session's id has: a length, the subtype, and the sixteen bytes of a UUID.
-const SIZE_OF_ID: u64 = 21;
 
 /// What is too large of a command: the first of its documents, or else its whole message.
 pub(crate) fn too_large(
@@ -226,12 +226,20 @@ fn size_of_session(lsid: Option<Lsid>) -> u64
     ensures { result ≡ told (length (spelled_elements (given (codes "lsid") (session_of lsid)))) }
 {
     match lsid {
-        Some(_) => element(
-            "lsid",
-            element("id", SIZE_OF_ID).saturating_add(AROUND_ELEMENTS),
-        ),
+        Some(id) => {
+            let inside = element("id", size_of_id(&id).saturating_add(AROUND_BINARY));
+            element("lsid", inside.saturating_add(AROUND_ELEMENTS))
+        }
         None => 0,
     }
+}
+
+/// The bytes of a session's id.
+fn size_of_id(id: &Lsid) -> u64
+    ensures { result ≡ length id.now.0 }
+{
+    let raw: &[u8] = &id.0;
+    raw.len() as u64
 }
 
 /// The transaction number.

@@ -1,5 +1,4 @@
 pub mod AlikeLemmas
-pub mod HostOrder
 pub mod HostTables
 pub mod LawLemmas
 pub mod Lists

@@ -1,4 +1,5 @@
 pub mod AlikeLemmas
+pub mod BoundLemmas
 pub mod HostTables
 pub mod LawLemmas
 pub mod Lists

@@ -2,13 +2,14 @@
 use Rattle.std.specs.Prelude.{ℕ, ℤ, pos, negsuc, Bool, false, not, List, [], ◌∷◌, Option, None, Some, find, unwrap_or, unsigned_abs, codes}
 use Rattle.std.specs.Option.{option_map, option_map_or, option_and_then}
 use Rattle.bson_doc.specs.Documents.{value_of}
+use Rattle.bson_doc.specs.Readings.{text_of, oid_of, version_of}
 use Rattle.bson_doc.specs.declared.ids.Oid.{Oid}
 use Rattle.bson_doc.specs.declared.name.Name.{Name}
 use Rattle.bson_doc.specs.declared.topology_version.TopologyVersion.{TopologyVersion}
 use Rattle.bson_doc.specs.declared.value.Value.{Value}
 use Rattle.bson_doc.specs.declared.value.Value.TheVariants as value
 use Rattle.host_name.specs.Addresses.{Address}
-use Rattle.hello_reply.specs.Columns.{text_of, whole_in, oid_of, host_of, hosts_of, tags_of, version_of, fits}
+use Rattle.hello_reply.specs.Columns.{whole_in, host_of, hosts_of, tags_of, fits}
 use Rattle.hello_reply.specs.declared.column.Column.{Column}
 use Rattle.hello_reply.specs.declared.column.Column.TheVariants as column
 use Rattle.hello_reply.specs.declared.field_name.FieldName.{FieldName}

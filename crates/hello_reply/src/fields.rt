@@ -5,7 +5,7 @@ ghost use Rattle.hello_reply.specs.Fields.{given as given_at, is_at_fault as has
 ghost use Rattle.hello_reply.specs.Columns.{IsWithin};
 
 use crate::field_name::FIELDS;
-use crate::readers::{fits, host_in, hosts_in, oid_in, tags_in, text_in, version_in, whole_in};
+use crate::readers::{fits, host_in, hosts_in, tags_in, whole_in};
 use crate::{FieldName, Memory, Tag};
 use bson_doc::{Document, Oid, Rows, Text, TopologyVersion, Value};
 use host_name::Host;
@@ -64,7 +64,7 @@ pub(crate) fn text(
     let Some(value) = given(reply, field) else {
         return Ok(None);
     };
-    match text_in(value) {
+    match value.text() {
         Some(text) => Ok(Some(text.copy(alloc)?)),
         None => Ok(None),
     }
@@ -100,7 +100,7 @@ pub(crate) fn size(reply: &Document, field: FieldName) -> Option<u32>
 pub(crate) fn oid(reply: &Document, field: FieldName) -> Option<Oid>
     ensures { result ≡ oid_at field reply.now.elements }
 {
-    oid_in(given(reply, field)?)
+    given(reply, field)?.oid()
 }
 
 /// The host of a field that spells one.
@@ -147,5 +147,5 @@ pub(crate) fn tags(alloc: Global, reply: &Document, field: FieldName) -> Result<
 pub(crate) fn version(reply: &Document, field: FieldName) -> Option<TopologyVersion>
     ensures { result ≡ version_at field reply.now.elements }
 {
-    version_in(given(reply, field)?)
+    given(reply, field)?.topology_version()
 }

@@ -15,7 +15,7 @@ use Rattle.host_name.specs.Addresses.{Address, address_cmp}
 use Rattle.hello_reply.specs.declared.server_description.ServerDescription.{ServerDescription}
 use Rattle.topo_rules.specs.Maps.{ServerMap, StandAtHosts, StandInOrder}
 use Rattle.topo_rules.specs.Seen.{by_host, described, seen}
-use Rattle.topo_rules.proofs.HostOrder.{host_total, host_same}
+use Rattle.host_name.proofs.HostOrder.{host_total, host_same}
 use Rattle.topo_rules.proofs.Places.{entries-from_entries, strict_keys}
 
 pub some_same : {A : Type 0} (x y : A) → Some x ≡ Some y → x ≡ y

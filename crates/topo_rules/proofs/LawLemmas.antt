@@ -22,7 +22,7 @@ use Rattle.topo_rules.specs.Laws.{MayStart, behind_event, behind_events, AtMostO
 use Rattle.topo_rules.specs.Maps.{ServerMap, tabulate, known_or_new, joined, beside_primary, servers_of_primary, has_primary}
 use Rattle.topo_rules.specs.Primaries.{judged}
 use Rattle.topo_rules.specs.Rules.{opened, event_host, fresh, name_differs, me_differs, placed, without, set_unknown, taken_name, check_if_has_primary, update_rs_without_primary, with_verdict, update_rs_from_primary, settled, after}
-use Rattle.topo_rules.proofs.HostOrder.{host_total, host_ties}
+use Rattle.host_name.proofs.HostOrder.{host_total, host_ties}
 use Rattle.topo_rules.proofs.HostTables.{some_same, same_from_test}
 use Rattle.topo_rules.proofs.OutcomeLemmas.{insert-insert, remove-insert}
 use Rattle.topo_rules.proofs.Tabulate.{among, get-tabulate, get_at}
@@ -384,7 +384,7 @@ kind_tells hosts name direct events may =
 
 -- ---- the hosts behind a primary
 
-stands-of_primary : (m : ServerMap) (d : ServerDescription) (x : Address) → is_some (map.get (servers_of_primary m d) x) ≡ list_any (is_same_address x) d.listed
+pub stands-of_primary : (m : ServerMap) (d : ServerDescription) (x : Address) → is_some (map.get (servers_of_primary m d) x) ≡ list_any (is_same_address x) d.listed
 stands-of_primary m d x = ap is_some (get-tabulate (beside_primary m d) x d.listed) ∙ plain (among x d.listed) ∙ same d.listed
   where
     plain : (b : Bool) → is_some (cond b (Some (beside_primary m d x)) None) ≡ b

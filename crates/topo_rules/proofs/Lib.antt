@@ -1,5 +1,5 @@
 pub mod AlikeLemmas
-pub mod HostOrder
+pub mod BoundLemmas
 pub mod HostTables
 pub mod LawLemmas
 pub mod Lists

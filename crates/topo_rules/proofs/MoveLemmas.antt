@@ -10,7 +10,7 @@ use Rattle.host_name.specs.Addresses.{Address, address_cmp}
 use Rattle.hello_reply.specs.declared.server_description.ServerDescription.{ServerDescription}
 use Rattle.topo_rules.specs.Changes.{hosts_beyond, meanless, plain}
 use Rattle.topo_rules.specs.Maps.{ServerMap}
-use Rattle.topo_rules.proofs.HostOrder.{host_total, host_same}
+use Rattle.host_name.proofs.HostOrder.{host_total, host_same}
 use Rattle.topo_rules.proofs.HostTables.{some_same}
 use Rattle.topo_rules.proofs.Tabulate.{get_at}
 

@@ -19,7 +19,7 @@ use Rattle.topo_rules.specs.Laws.{StandsBehind}
 use Rattle.topo_rules.specs.Maps.{ServerMap, known_or_new, joined, beside_primary, servers_of_primary}
 use Rattle.topo_rules.specs.Primaries.{judged}
 use Rattle.topo_rules.specs.Rules.{fresh, name_differs, me_differs, placed, taken_name, update_rs_without_primary, with_verdict, update_rs_from_primary, settled, after}
-use Rattle.topo_rules.proofs.HostOrder.{host_total}
+use Rattle.host_name.proofs.HostOrder.{host_total}
 use Rattle.topo_rules.proofs.HostTables.{some_same, same_from_test}
 use Rattle.topo_rules.proofs.LawLemmas.{at_tabulate, host-fresh}
 

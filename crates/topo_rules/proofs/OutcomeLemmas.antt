@@ -15,7 +15,7 @@ use Rattle.topo_rules.specs.Kinds.{is_primary}
 use Rattle.topo_rules.specs.Primaries.{judged}
 use Rattle.topo_rules.specs.Rules.{name_differs, me_differs, placed, without, taken_name, check_if_has_primary, with_verdict, update_rs_from_primary, update_rs_without_primary}
 use Rattle.topo_rules.specs.Maps.{ServerMap, tabulate, joined, known_or_new, beside_primary, servers_of_primary}
-use Rattle.topo_rules.proofs.HostOrder.{host_total, host_same, host_ties}
+use Rattle.host_name.proofs.HostOrder.{host_total, host_same, host_ties}
 
 twice : {A : Type 0} (b : Bool) (x y z : A) → cond b x (cond b y z) ≡ cond b x z
 twice true x y z = refl

@@ -6,7 +6,7 @@ use Rattle.std.specs.Ordering.{eq_by_cmp}
 use Rattle.host_name.specs.Addresses.{Address, address_cmp, is_same_address}
 use Rattle.hello_reply.specs.declared.server_description.ServerDescription.{ServerDescription}
 use Rattle.topo_rules.specs.Maps.{tabulate}
-use Rattle.topo_rules.proofs.HostOrder.{host_total, host_ties}
+use Rattle.host_name.proofs.HostOrder.{host_total, host_ties}
 use Rattle.topo_rules.proofs.Tabulate.{among, get-tabulate}
 
 left_false : (a b : Bool) → (a || b) ≡ false → a ≡ false

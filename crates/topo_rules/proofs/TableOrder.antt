@@ -20,7 +20,7 @@ use Rattle.host_name.specs.Addresses.{Address, address_cmp, is_same_address, is_
 use Rattle.hello_reply.specs.declared.server_description.ServerDescription.{ServerDescription}
 use Rattle.topo_rules.specs.Maps.{ServerMap, StandAtHosts}
 use Rattle.topo_rules.specs.Seen.{by_host, described, seen}
-use Rattle.topo_rules.proofs.HostOrder.{host_total, host_same, host_ties}
+use Rattle.host_name.proofs.HostOrder.{host_total, host_same, host_ties}
 use Rattle.topo_rules.proofs.HostTables.{entries-by_host, equal_is, same_from_test}
 use Rattle.topo_rules.proofs.Lists.{none_past}
 use Rattle.topo_rules.proofs.Tabulate.{get_at}

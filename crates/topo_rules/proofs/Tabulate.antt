@@ -15,7 +15,7 @@ use Rattle.hello_reply.specs.Descriptions.{unknown as default_unknown_of}
 use Rattle.topo_rules.specs.Kinds.{is_primary}
 use Rattle.topo_rules.specs.Maps.{ServerMap, StandAtHosts, tabulate, known_or_new, beside_primary}
 use Rattle.topo_rules.specs.Seen.{by_host, described, seen}
-use Rattle.topo_rules.proofs.HostOrder.{host_total}
+use Rattle.host_name.proofs.HostOrder.{host_total}
 use Rattle.topo_rules.proofs.HostTables.{same_from_test}
 use Rattle.topo_rules.proofs.Places.{distinct_keys}
 

@@ -1,16 +1,11 @@
 -- Whether a primary is stale, and what the greatest election and set version are behind it (SDAM, updateRSFromPrimary).
 use Rattle.std.specs.Prelude.{ℤ, Bool, false, ◌&&◌, if◌then◌else◌, Option, None, Some, pos, int_le, is_some}
-use Rattle.std.specs.Ordering.{nat_cmp, int_cmp, ordering_then, is_lt, is_gt}
-use Rattle.std.specs.declared.cmp.Ordering.{Ordering}
+use Rattle.std.specs.Ordering.{int_cmp, ordering_then, is_lt, is_gt}
 use Rattle.std.specs.Option.{option_cmp}
-use Rattle.std.specs.Cmp.Lexicographic.{slice_cmp}
+use Rattle.bson_doc.specs.Ids.{oid_cmp}
 use Rattle.bson_doc.specs.declared.ids.Oid.{Oid}
 use Rattle.hello_reply.specs.declared.server_description.ServerDescription.{ServerDescription}
 use Rattle.topo_rules.specs.declared.maxima.Maxima.{Maxima}
-
--- ObjectIds in the order of their bytes, from the first on (bsonspec 1.1, ObjectId).
-abbrev pub oid_cmp : Oid → Oid → Ordering
-oid_cmp a b = slice_cmp nat_cmp a.0 b.0
 
 -- At wire version 17 and above the pair (electionId, setVersion) is compared with the pair of the maxima, the election
 -- first; none stands below all. A lesser pair is stale; of another one both maxima become the primary's.

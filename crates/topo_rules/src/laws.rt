@@ -10,9 +10,9 @@ ghost use Rattle.topo_rules.specs.declared.event.TopoEvent.TheVariants.{Reply};
 ghost use Rattle.topo_rules.specs.declared.maxima.Maxima.{Maxima};
 ghost use Rattle.topo_rules.specs.declared.topology.Topology.{Topology};
 ghost use Rattle.topo_rules.specs.Changes.{stands};
-ghost use Rattle.topo_rules.specs.Laws.{MayStart, StandsBehind, AtMostOnePrimary, KindTellsPrimary, behind_events, is_set_kind};
+ghost use Rattle.topo_rules.specs.Laws.{MayStart, StandsBehind, AtMostOnePrimary, KindTellsPrimary, MayRemove, BoundedMoves, behind_events, is_set_kind, listed_by};
 ghost use Rattle.topo_rules.specs.Primaries.{judged};
-ghost use Rattle.topo_rules.specs.Rules.{opened, after, name_differs};
+ghost use Rattle.topo_rules.specs.Rules.{opened, event_host, after, name_differs};
 
 /// Behind every list of events at most one server is a primary.
 pub fn at_most_one_primary()
@@ -33,4 +33,21 @@ pub fn listed_hosts_stand()
 /// stood there.
 pub fn nothing_else_stands()
     ensures { (t : Topology) (event : TopoEvent) (x : Address) (d : ServerDescription) → map.get (after t event).servers x ≡ Some d → StandsBehind t event x d }
+{}
+
+/// A host that an event of a host of the topology adds is one that the event lists.
+pub fn added_hosts_are_listed()
+    ensures { (t : Topology) (event : TopoEvent) (x : Address) → stands t (event_host event) ≡ true → stands t x ≡ false → stands (after t event) x ≡ true → list_any (is_same_address x) (listed_by event) ≡ true }
+{}
+
+/// A host that an event removes is the one that replied, or one that a primary's reply does not list.
+pub fn removed_hosts_may_be()
+    ensures { (t : Topology) (event : TopoEvent) (x : Address) → stands t x ≡ true → stands (after t event) x ≡ false → MayRemove event x }
+{}
+
+/// An event of a host of the topology adds no more hosts than it lists. It removes none where it is no reply, at most the
+/// server itself where that is no primary, and else at most all that stood. So the hosts behind it are at most those that
+/// stood and those that it lists.
+pub fn moves_are_bounded()
+    ensures { (t : Topology) (event : TopoEvent) → stands t (event_host event) ≡ true → BoundedMoves t event (after t event) }
 {}

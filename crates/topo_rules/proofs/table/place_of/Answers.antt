@@ -2,7 +2,7 @@ use Rattle.std.proofs.Common.{rules}
 use Rattle.std.proofs.lemmas.Fn.{always_returns_same}
 use Rattle.std.proofs.lemmas.List.Sorted.{searchable_from_sorted}
 use Rattle.host_name.specs.Addresses.{address_cmp}
-use Rattle.topo_rules.proofs.HostOrder.{host_total}
+use Rattle.host_name.proofs.HostOrder.{host_total}
 use Rattle.topo_rules.proofs.TableOrder.{host_at, at_described, absent, sorted-in_order}
 use Rattle.topo_rules.proofs.table.place_of.Goals as goal
 

@@ -3,7 +3,7 @@ use Rattle.std.proofs.lemmas.Fn.{dedup_same}
 use Rattle.std.proofs.lemmas.List.Sorted.{answers_always, ranks_by}
 use Rattle.std.specs.Ordering.{is_lt}
 use Rattle.host_name.specs.Addresses.{is_same_address}
-use Rattle.topo_rules.proofs.HostOrder.{host_total}
+use Rattle.host_name.proofs.HostOrder.{host_total}
 use Rattle.topo_rules.proofs.TableOrder.{host_at, host_order, dedup-in_order, seen-sorted}
 use Rattle.topo_rules.proofs.table.put_in_order.Goals as goal
 

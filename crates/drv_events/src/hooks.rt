@@ -33,14 +33,14 @@ impl<L> HooksOf<L> {
 
     /// How many listeners there are.
     pub fn len(&self) -> u64
-        ensures { result ≡ length self.now.listeners.items }
+        ensures count { result ≡ length self.now.listeners.items }
     {
         self.listeners.len() as u64
     }
 
     /// How many listeners left and were dropped.
     pub fn left(&self) -> u64
-        ensures { result ≡ self.now.left }
+        ensures count { result ≡ self.now.left }
     {
         self.left
     }
@@ -49,7 +49,7 @@ impl<L> HooksOf<L> {
 impl<L: Drop> HooksOf<L> {
     /// Adds a listener behind those that are there. Where memory is wanting it is handed back.
     pub fn add(&mut self, listener: L) -> Result<(), L>
-        requires { length self.old.listeners.items + self.old.left < 2 ^ 32 }
+        requires room { length self.old.listeners.items + self.old.left < 2 ^ 32 }
         ensures ok { OnOk result (self.new.listeners.items ≡ self.old.listeners.items ++ listener ∷ []) }
         ensures err { IfErr result (λ back. (back ≡ listener) × (self.new.listeners.items ≡ self.old.listeners.items)) }
         ensures left { self.new.left ≡ self.old.left }

@@ -1,0 +1,31 @@
+ghost use Rattle.std.specs.Prelude.{◌≡◌, ◌<◌, ◌++◌, length};
+ghost use Rattle.std.specs.VecDeque.{deque_len, deque_capacity};
+ghost use Rattle.server_pick.specs.Asked.{Asks, kept_of};
+
+use crate::{Candidate, Picker};
+use std::collections::VecDeque;
+
+/// Asks the picker of the candidate, and puts it behind the others where it is kept.
+fn ask<P: Picker>(picker: &mut P, candidate: Candidate, others: &mut VecDeque<Candidate>)
+    requires { deque_len others.old < deque_capacity others.old }
+    ensures next { P.follows picker.old candidate picker.new }
+    ensures kept { others.new.items ≡ others.old.items ++ kept_of (P.allows picker.old candidate) candidate }
+{
+    if picker.keep(&candidate) {
+        others.push_back_reserved(candidate);
+    }
+}
+
+/// Asks the picker of each candidate once, in order, and gives those that it keeps. It takes no memory: each candidate leaves
+/// the front, and those that are kept go behind the rest.
+pub fn ask_all<P: Picker>(picker: &mut P, candidates: Vec<Candidate>) -> Vec<Candidate>
+    ensures { Asks P.allows P.follows picker.old candidates.items result.items picker.new }
+{
+    let mut left = VecDeque::from(candidates);
+    for place in 0..left.len() {
+        if let Some(candidate) = left.pop_front() {
+            ask(picker, candidate, &mut left);
+        }
+    }
+    left.into_vec()
+}

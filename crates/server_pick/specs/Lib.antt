@@ -2,6 +2,7 @@ pub mod Asked
 pub mod Candidates
 pub mod Concluded
 pub mod Gathered
+pub mod Laws
 pub mod Picks
 pub mod Prepared
 pub mod Runs

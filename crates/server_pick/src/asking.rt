@@ -21,8 +21,9 @@ fn ask<P: Picker>(picker: &mut P, candidate: Candidate, others: &mut VecDeque<Ca
 pub fn ask_all<P: Picker>(picker: &mut P, candidates: Vec<Candidate>) -> Vec<Candidate>
     ensures { Asks P.allows P.follows picker.old candidates.items result.items picker.new }
 {
+    let count = candidates.len();
     let mut left = VecDeque::from(candidates);
-    for place in 0..left.len() {
+    for place in 0..count {
         if let Some(candidate) = left.pop_front() {
             ask(picker, candidate, &mut left);
         }

@@ -8,6 +8,7 @@ use crate::preparing::Room;
 use crate::{Candidate, Picked};
 use bson_doc::{Buffer, Rows};
 use host_name::Host;
+use std::collections::VecDeque;
 
 /// The chosen one's host, copied into the room for its name; none fits where none is chosen.
 fn chosen(candidate: Option<&Candidate>, name: String) -> Picked
@@ -30,10 +31,14 @@ fn hosts_of(kept: Vec<Candidate>, room: Buffer<Host>) -> Rows<Host>
     requires room { length kept.items ≤ room.room }
     ensures { result ≡ map_lem (λ c. c.host) kept.items }
 {
+    let count = kept.len();
+    let mut left = VecDeque::from(kept);
     let mut hosts = room;
-    for candidate in kept {
-        let Candidate { host, .. } = candidate;
-        hosts.put(host);
+    for place in 0..count {
+        if let Some(candidate) = left.pop_front() {
+            let Candidate { host, .. } = candidate;
+            hosts.put(host);
+        }
     }
     hosts.into_rows()
 }

@@ -1,0 +1,81 @@
+-- A picker that is asked of candidates, one after another.
+use Rattle.std.proofs.Common.{◌≡◌, ℕ, ◌+◌, ◌<◌, ◌≤◌, Bool, true, false, if◌then◌else◌, List, [], ◌∷◌, ◌++◌, refl, sym, ap, subst, ◌∙◌, arith, append_assoc, append-nil, length, map, drop}
+use Rattle.std.proofs.lemmas.List.{drop_more, drop_all, length-append, map-append}
+use Rattle.std.proofs.lemmas.List.Elements.{All-nil, All-cons, All-head, All-tail, All-append, All-same}
+use Rattle.std.specs.List.{All, slice_index_or}
+use Rattle.host_name.specs.Addresses.{Address}
+use Rattle.server_pick.specs.Asked.{Asks, kept_of}
+use Rattle.server_pick.specs.Runs.{Runs, with_answer}
+use Rattle.server_pick.specs.declared.candidate.Candidate.{Candidate}
+
+abbrev pub hosts_of : List Candidate → List Address
+hosts_of cs = map (λ (c : Candidate). c.host) cs
+
+module _ {S : Type 0} (allows : S → Candidate → Bool) (follows : S → Candidate → S → Type 0) where
+  -- so far a picker was asked of the candidates ahead of a place: those that it kept stand behind the rest, and what it does with
+  -- the rest it does with all
+  pub record Asking (first : S) (cs : List Candidate) (place : ℕ) (now : S) (items : List Candidate) : Type 0 where
+    pub kept : List Candidate
+    pub order : items ≡ drop place cs ++ kept
+    pub rest : (ks : List Candidate) (q : S) → Asks allows follows now (drop place cs) ks q → Asks allows follows first cs (kept ++ ks) q
+
+  pub asking_begins : (first : S) (cs : List Candidate) → Asking first cs 0 first cs
+  asking_begins first cs = record { kept = []; order = sym (append-nil cs); rest = λ ks q a. a }
+
+  same_head : (c x : Candidate) (xs ys : List Candidate) → c ∷ xs ≡ x ∷ ys → c ≡ x
+  same_head c x xs ys e = ap (λ zs. slice_index_or zs 0 c) e
+
+  same_tail : (c x : Candidate) (xs ys : List Candidate) → c ∷ xs ≡ x ∷ ys → xs ≡ ys
+  same_tail c x xs ys e = ap (drop 1) e
+
+  pub asking_goes_on : (first : S) (cs : List Candidate) (place : ℕ) (now next : S) (items left after : List Candidate) (c : Candidate)
+      → Asking first cs place now items → place < length cs → items ≡ c ∷ left → follows now c next → after ≡ left ++ kept_of (allows now c) c
+      → Asking first cs (place + 1) next after
+  asking_goes_on first cs place now next items left after c so_far within at step behind =
+      let split : drop place cs ≡ slice_index_or cs place c ∷ drop (place + 1) cs = drop_more cs place c within in
+      let both : c ∷ left ≡ slice_index_or cs place c ∷ (drop (place + 1) cs ++ so_far.kept) = sym at ∙ so_far.order ∙ ap (λ xs. xs ++ so_far.kept) split in
+      let head : c ≡ slice_index_or cs place c = same_head _ _ _ _ both in
+      let tail : left ≡ drop (place + 1) cs ++ so_far.kept = same_tail _ _ _ _ both in
+      let here : drop place cs ≡ c ∷ drop (place + 1) cs = split ∙ ap (λ x. x ∷ drop (place + 1) cs) (sym head) in
+      record {
+        kept = so_far.kept ++ kept_of (allows now c) c;
+        order = behind ∙ ap (λ xs. xs ++ kept_of (allows now c) c) tail ∙ append_assoc (drop (place + 1) cs) so_far.kept (kept_of (allows now c) c);
+        rest = λ ks q a. subst (λ xs. Asks allows follows first cs xs q) (sym (append_assoc so_far.kept (kept_of (allows now c) c) ks))
+            (so_far.rest (kept_of (allows now c) c ++ ks) q (subst (λ xs. Asks allows follows now xs (kept_of (allows now c) c ++ ks) q) (sym here) (next, step, ks, refl, a)));
+      }
+
+  pub asking_ends : (first : S) (cs : List Candidate) (place : ℕ) (now : S) (items : List Candidate) → Asking first cs place now items → length cs ≤ place → Asks allows follows first cs items now
+  asking_ends first cs place now items so_far past =
+      let none : drop place cs ≡ [] = drop_all place cs past in
+      subst (λ xs. Asks allows follows first cs xs now) (append-nil so_far.kept ∙ sym (so_far.order ∙ ap (λ xs. xs ++ so_far.kept) none))
+          (so_far.rest [] now (subst (λ xs. Asks allows follows now xs [] now) (sym none) (refl, refl)))
+
+  -- the hosts of what was kept are what a run keeps
+  pub runs_of_asks : (p : S) (cs ks : List Candidate) (q : S) → Asks allows follows p cs ks q → Runs allows follows p cs (hosts_of ks) q
+  runs_of_asks p [] ks q a = (ap hosts_of a.0, a.1)
+  runs_of_asks p (c ∷ cs) ks q (r, step, rest, kept, more) =
+      (r, step, hosts_of rest, ap hosts_of kept ∙ by (allows p c), runs_of_asks r cs rest q more)
+    where
+      by : (b : Bool) → hosts_of (kept_of b c ++ rest) ≡ with_answer b c (hosts_of rest)
+      by true = refl
+      by false = refl
+
+  -- what holds of all candidates holds of those that were kept
+  pub all_of_asks : (P : Candidate → Type 0) (p : S) (cs ks : List Candidate) (q : S) → Asks allows follows p cs ks q → All P cs → All P ks
+  all_of_asks P p [] ks q a h = All-same P ks [] a.0 (All-nil P)
+  all_of_asks P p (c ∷ cs) ks q (r, step, rest, kept, more) h =
+      All-same P ks _ kept (All-append P (kept_of (allows p c) c) rest (by (allows p c)) (all_of_asks P r cs rest q more (All-tail P c cs h)))
+    where
+      by : (b : Bool) → All P (kept_of b c)
+      by true = All-cons P c [] (All-head P c cs h) (All-nil P)
+      by false = All-nil P
+
+  pub length_of_asks : (p : S) (cs ks : List Candidate) (q : S) → Asks allows follows p cs ks q → length ks ≤ length cs
+  length_of_asks p [] ks q a = let e : length ks ≡ 0 = ap length a.0 in omega (arith, e)
+  length_of_asks p (c ∷ cs) ks q (r, step, rest, kept, more) =
+      let e : length ks ≡ length (kept_of (allows p c) c) + length rest = ap length kept ∙ length-append (kept_of (allows p c) c) rest in
+      omega (arith, e, by (allows p c), length_of_asks r cs rest q more)
+    where
+      by : (b : Bool) → length (kept_of b c) ≤ 1
+      by true = omega arith
+      by false = omega arith

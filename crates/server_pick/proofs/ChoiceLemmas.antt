@@ -88,12 +88,17 @@ module _ {A B : Type 0} (f : A → B) where
   module _ (mean : B → ℕ) (own : A → ℕ) where
     least_map : (xs : List A) → All (λ x. mean (f x) ≡ own x) xs → least_of mean (map f xs) ≡ least_of own xs
     least_map [] h = refl
-    least_map (x ∷ xs) h = λ i. lesser (Some (All-head _ x xs h i)) (least_map xs (All-tail _ x xs h) i)
+    least_map (x ∷ xs) h =
+        let head : mean (f x) ≡ own x = All-head (λ y. mean (f y) ≡ own y) x xs h in
+        let rest : least_of mean (map f xs) ≡ least_of own xs = least_map xs (All-tail (λ y. mean (f y) ≡ own y) x xs h) in
+        λ i. lesser (Some (head i)) (rest i)
 
     filter_map_same : (end : ℕ) (xs : List A) → All (λ x. mean (f x) ≡ own x) xs → filter (λ y. nat_le (mean y) end) (map f xs) ≡ map f (filter (λ x. nat_le (own x) end) xs)
     filter_map_same end [] h = refl
     filter_map_same end (x ∷ xs) h =
-        (λ i. cond (nat_le (All-head _ x xs h i) end) (f x ∷ filter_map_same end xs (All-tail _ x xs h) i) (filter_map_same end xs (All-tail _ x xs h) i))
+        let head : mean (f x) ≡ own x = All-head (λ y. mean (f y) ≡ own y) x xs h in
+        let rest : filter (λ y. nat_le (mean y) end) (map f xs) ≡ map f (filter (λ y. nat_le (own y) end) xs) = filter_map_same end xs (All-tail (λ y. mean (f y) ≡ own y) x xs h) in
+        (λ i. cond (nat_le (head i) end) (f x ∷ rest i) (rest i))
         ∙ by (nat_le (own x) end)
       where
         by : (b : Bool) → cond b (f x ∷ map f (filter (λ x. nat_le (own x) end) xs)) (map f (filter (λ x. nat_le (own x) end) xs)) ≡ map f (cond b (x ∷ filter (λ x. nat_le (own x) end) xs) (filter (λ x. nat_le (own x) end) xs))
@@ -122,7 +127,7 @@ module _ {A B : Type 0} (f : A → B) where
         ap (λ n. lighter_of load (slice_get (map f xs) (w1 % n)) (slice_get (remove (map f xs) (w1 % n)) (w2 % (n - 1)))) (length-map xs f)
         ∙ (λ i. lighter_of load (slice_get-map f xs (w1 % length xs) i) (second i))
         ∙ lighter_map (slice_get xs (w1 % length xs)) (slice_get (remove xs (w1 % length xs)) (w2 % (length xs - 1)))
-            (all_at _ xs (w1 % length xs) h) (all_at _ (remove xs (w1 % length xs)) (w2 % (length xs - 1)) (all_remove _ xs (w1 % length xs) h))
+        (all_at (λ x. load (f x) ≡ own x) xs (w1 % length xs) h) (all_at (λ x. load (f x) ≡ own x) (remove xs (w1 % length xs)) (w2 % (length xs - 1)) (all_remove (λ x. load (f x) ≡ own x) xs (w1 % length xs) h))
       where
         second : slice_get (remove (map f xs) (w1 % length xs)) (w2 % (length xs - 1)) ≡ option_map f (slice_get (remove xs (w1 % length xs)) (w2 % (length xs - 1)))
         second = ap (λ ys. slice_get ys (w2 % (length xs - 1))) (remove_map xs (w1 % length xs)) ∙ slice_get-map f (remove xs (w1 % length xs)) (w2 % (length xs - 1))

@@ -44,76 +44,78 @@ under_parts : (n a : ℕ) (o : Option ℕ) → IsUnder n (lesser (Some a) o) →
 under_parts n a None h = (h, tt)
 under_parts n a (Some m) h = (omega (arith, h), omega (arith, h))
 
+abbrev number_in : Option ℕ → ℕ
+number_in None = 0
+number_in (Some k) = k
+
+or_true : (b : Bool) → (b || true) ≡ true
+or_true true = refl
+or_true false = refl
+
+same_number : (m n : ℕ) → Some m ≡ Some n → m ≡ n
+same_number m n e = ap number_in e
+
 module _ {A : Type 0} (f : A → ℕ) where
   all_above : (n : ℕ) (xs : List A) → IsUnder n (least_of f xs) → All (λ x. n ≤ f x) xs
-  all_above n [] h = All-nil _
+  all_above n [] h = All-nil (λ x. n ≤ f x)
   all_above n (x ∷ xs) h =
       let parts : (n ≤ f x) × IsUnder n (least_of f xs) = under_parts n (f x) (least_of f xs) h in
-      All-cons _ x xs parts.0 (all_above n xs parts.1)
+      All-cons (λ y. n ≤ f y) x xs parts.0 (all_above n xs parts.1)
+
+  reached_there : (n end : ℕ) (x : A) (some : Bool) (o : Option ℕ) → lesser (Some (f x)) o ≡ Some n → n ≤ end → ((m : ℕ) → o ≡ Some m → m ≤ end → some ≡ true) → (nat_le (f x) end || some) ≡ true
+  reached_there n end x some o e h rest = by (nat_le (f x) end) refl o e rest
+    where
+      by : (b : Bool) → nat_le (f x) end ≡ b → (o : Option ℕ) → lesser (Some (f x)) o ≡ Some n → ((m : ℕ) → o ≡ Some m → m ≤ end → some ≡ true) → (nat_le (f x) end || some) ≡ true
+      by true t o e rest = ap (λ b. b || some) t
+      by false t None e rest =
+          let same : f x ≡ n = same_number (f x) n e in
+          let bound : f x ≤ end = omega (arith, same, h) in
+          absurd (true≢false (sym (le-leb (f x) end bound) ∙ t))
+      by false t (Some m) e rest =
+          let same : min (f x) m ≡ n = same_number (min (f x) m) n e in
+          let above : end < f x = leb-false (f x) end t in
+          let bound : m ≤ end = omega (arith, same, above, h) in
+          ap (λ b. nat_le (f x) end || b) (rest m refl bound) ∙ or_true (nat_le (f x) end)
 
   -- the least is reached by some item
   reached : (n end : ℕ) (xs : List A) → least_of f xs ≡ Some n → n ≤ end → list_any (λ x. nat_le (f x) end) xs ≡ true
   reached n end [] e h = absurd (true≢false (sym (ap is_some e)))
-  reached n end (x ∷ xs) e h = by (least_of f xs) refl (nat_le (f x) end) refl
-    where
-      by : (o : Option ℕ) → least_of f xs ≡ o → (b : Bool) → nat_le (f x) end ≡ b → (nat_le (f x) end || list_any (λ x. nat_le (f x) end) xs) ≡ true
-      by o is true t = ap (λ b. b || list_any (λ x. nat_le (f x) end) xs) t
-      by None is false t =
-          let same : f x ≡ n = ap number (sym (ap (lesser (Some (f x))) is) ∙ e) in
-          absurd (true≢false (sym (le-leb (f x) end (omega (arith, same, h))) ∙ t))
-        where
-          number : Option ℕ → ℕ
-          number None = 0
-          number (Some k) = k
-      by (Some m) is false t =
-          let same : min (f x) m ≡ n = ap number (sym (ap (lesser (Some (f x))) is) ∙ e) in
-          let above : end < f x = leb-false (f x) end t in
-          ap (λ b. nat_le (f x) end || b) (reached m end xs is (omega (arith, same, above, h))) ∙ or_true (nat_le (f x) end)
-        where
-          number : Option ℕ → ℕ
-          number None = 0
-          number (Some k) = k
-
-          or_true : (b : Bool) → (b || true) ≡ true
-          or_true true = refl
-          or_true false = refl
+  reached n end (x ∷ xs) e h = reached_there n end x (list_any (λ x. nat_le (f x) end) xs) (least_of f xs) e h (λ m is le. reached m end xs is le)
 
   -- an item is in the list, and longer than none by more than the threshold
   pub record IsClose (threshold : ℕ) (xs : List A) (x : A) : Type 0 where
     pub there : Contains xs x
     pub near : All (λ y. f x ≤ f y + threshold) xs
 
+  all_close : (threshold least : ℕ) (xs ys : List A) → All (λ y. least ≤ f y) xs → All (Contains xs) ys → All (λ x. nat_le (f x) (least + threshold) ≡ true) ys → All (IsClose threshold xs) ys
+  all_close threshold least xs [] bound c p = All-nil (IsClose threshold xs)
+  all_close threshold least xs (y ∷ ys) bound c p =
+      let up : f y ≤ least + threshold = leb-true (f y) (least + threshold) (All-head (λ x. nat_le (f x) (least + threshold) ≡ true) y ys p) in
+      let near : All (λ z. f y ≤ f z + threshold) xs = All-weaker (λ z. least ≤ f z) (λ z. f y ≤ f z + threshold) (λ z h. omega (arith, up, h)) xs bound in
+      let close : IsClose threshold xs y = record { there = All-head (Contains xs) y ys c; near = near } in
+      All-cons (IsClose threshold xs) y ys close
+      (all_close threshold least xs ys bound (All-tail (Contains xs) y ys c) (All-tail (λ x. nat_le (f x) (least + threshold) ≡ true) y ys p))
+
   window_close : (threshold : ℕ) (xs : List A) → All (IsClose threshold xs) (window f threshold xs)
   window_close threshold xs = by (least_of f xs) refl
     where
       by : (o : Option ℕ) → least_of f xs ≡ o → All (IsClose threshold xs) (within f o threshold xs)
-      by None e = All-nil _
+      by None e = All-nil (IsClose threshold xs)
       by (Some least) e =
-          both (filter (λ x. nat_le (f x) (least + threshold)) xs) (All-filter _ (Contains xs) xs (All-contains_itself xs)) (filter_passes (λ x. nat_le (f x) (least + threshold)) xs)
-        where
-          bound : All (λ y. least ≤ f y) xs
-          bound = all_above least xs (subst (IsUnder least) (sym e) (omega arith))
-
-          both : (ys : List A) → All (Contains xs) ys → All (λ x. nat_le (f x) (least + threshold) ≡ true) ys → All (IsClose threshold xs) ys
-          both [] c p = All-nil _
-          both (y ∷ ys) c p =
-              All-cons _ y ys
-                  (record {
-                    there = All-head _ y ys c;
-                    near = All-weaker _ _ (λ z h. let up : f y ≤ least + threshold = leb-true (f y) (least + threshold) (All-head _ y ys p) in omega (arith, up, h)) xs bound;
-                  })
-                  (both ys (All-tail _ y ys c) (All-tail _ y ys p))
+          let under : IsUnder least (least_of f xs) = subst (IsUnder least) (sym e) (omega arith) in
+          all_close threshold least xs (filter (λ x. nat_le (f x) (least + threshold)) xs) (all_above least xs under)
+          (All-filter (λ x. nat_le (f x) (least + threshold)) (Contains xs) xs (All-contains_itself xs)) (filter_passes (λ x. nat_le (f x) (least + threshold)) xs)
 
   pub choice_close : (threshold : ℕ) (load : A → ℕ) (w1 w2 : ℕ) (xs : List A) → IfSome (choice load w1 w2 (window f threshold xs)) (IsClose threshold xs)
   choice_close threshold load w1 w2 xs = all_choice (IsClose threshold xs) load w1 w2 (window f threshold xs) (window_close threshold xs)
 
   filter_some : (p : A → Bool) (xs : List A) → list_any p xs ≡ true → 0 < length (filter p xs)
   filter_some p [] e = absurd (true≢false (sym e))
-  filter_some p (x ∷ xs) e = by (p x) e
+  filter_some p (x ∷ xs) e = by (p x) e (filter_some p xs)
     where
-      by : (b : Bool) → (b || list_any p xs) ≡ true → 0 < length (cond b (x ∷ filter p xs) (filter p xs))
-      by true e = omega arith
-      by false e = filter_some p xs e
+      by : (b : Bool) → (b || list_any p xs) ≡ true → (list_any p xs ≡ true → 0 < length (filter p xs)) → 0 < length (cond b (x ∷ filter p xs) (filter p xs))
+      by true e ih = omega arith
+      by false e ih = ih e
 
   window_some : (threshold : ℕ) (x : A) (xs : List A) → 0 < length (window f threshold (x ∷ xs))
   window_some threshold x xs = by (least_of f xs) refl
@@ -121,7 +123,7 @@ module _ {A : Type 0} (f : A → ℕ) where
       at_least : (n : ℕ) → least_of f (x ∷ xs) ≡ Some n → 0 < length (window f threshold (x ∷ xs))
       at_least n e =
           subst (λ o. 0 < length (within f o threshold (x ∷ xs))) (sym e)
-              (filter_some (λ y. nat_le (f y) (n + threshold)) (x ∷ xs) (reached n (n + threshold) (x ∷ xs) e (omega arith)))
+          (filter_some (λ y. nat_le (f y) (n + threshold)) (x ∷ xs) (reached n (n + threshold) (x ∷ xs) e (omega arith)))
 
       by : (o : Option ℕ) → least_of f xs ≡ o → 0 < length (window f threshold (x ∷ xs))
       by None e = at_least (f x) (ap (lesser (Some (f x))) e)
@@ -131,19 +133,19 @@ some_choice : {A : Type 0} (load : A → ℕ) (w1 w2 : ℕ) (xs : List A) → 0 
 some_choice load w1 w2 [] h = absurd (omega (arith, h))
 some_choice load w1 w2 (x ∷ xs) h =
     ap (λ o. is_some (lighter_of load o (slice_get (remove (x ∷ xs) (w1 % length (x ∷ xs))) (w2 % (length (x ∷ xs) - 1)))))
-        (slice_get-get_or (x ∷ xs) (w1 % length (x ∷ xs)) x (mod-lt w1 h))
+    (slice_get-get_or (x ∷ xs) (w1 % length (x ∷ xs)) x (mod-lt w1 h))
 
 -- ---- What is told
 
-chosen_in : Picked → Option Address
+abbrev chosen_in : Picked → Option Address
 chosen_in (Chosen host) = Some host
 chosen_in _ = None
 
-is_incompatible : Picked → Bool
+abbrev is_incompatible : Picked → Bool
 is_incompatible (Incompatible host a b) = true
 is_incompatible _ = false
 
-is_none : Picked → Bool
+abbrev is_none : Picked → Bool
 is_none NoneFits = true
 is_none _ = false
 
@@ -155,7 +157,7 @@ near_choice m threshold kept load w1 w2 host e = by (misfit_of m) (chosen_of m t
     by None None h e = absurd (true≢false (sym (ap (λ p. is_some (chosen_in p)) e)))
     by None (Some x) h e =
         let same : x ≡ host = ap name (ap chosen_in e) in
-        subst (IsNear m threshold kept) same (record { kept = h.there; near = h.near })
+        subst (IsNear m threshold kept) same (record { there = h.there; near = h.near })
       where
         name : Option Address → Address
         name None = x
@@ -189,19 +191,20 @@ kept_none m threshold kept load w1 w2 h = λ i. told (h.0 i) (chosen_of m thresh
 -- ---- What is kept
 
 contains_more : {A : Type 0} (x : A) (xs : List A) (y : A) → Contains xs y → Contains (x ∷ xs) y
-contains_more x xs y h = All-contains (Contains (x ∷ xs)) xs y (All-tail _ x xs (All-contains_itself (x ∷ xs))) h
+contains_more x xs y h = All-contains (Contains (x ∷ xs)) xs y (All-tail (Contains (x ∷ xs)) x xs (All-contains_itself (x ∷ xs))) h
 
 contains_first : {A : Type 0} (x : A) (xs : List A) → Contains (x ∷ xs) x
-contains_first x xs = All-head _ x xs (All-contains_itself (x ∷ xs))
+contains_first x xs = All-head (Contains (x ∷ xs)) x xs (All-contains_itself (x ∷ xs))
 
 module _ {S : Type 0} (allows : S → Candidate → Bool) (follows : S → Candidate → S → Type 0) where
   pub kept_candidates : (p : S) (cs : List Candidate) (kept : List Address) (q : S) → Runs allows follows p cs kept q → All (IsOfCandidate cs) kept
-  kept_candidates p [] kept q h = All-same _ kept [] h.0 (All-nil _)
-  kept_candidates p (c ∷ cs) kept q (r, step, rest, is, more) =
-      All-same _ kept _ is (by (allows p c) (All-weaker _ _ (λ h k. (k.0, contains_more c cs k.0 k.1.0, k.1.1)) rest (kept_candidates r cs rest q more)))
+  kept_candidates p [] kept q h = All-same (IsOfCandidate []) kept [] h.0 (All-nil (IsOfCandidate []))
+  kept_candidates p (c ∷ cs) kept q (r, step, (rest, is, more)) =
+      All-same (IsOfCandidate (c ∷ cs)) kept (with_answer (allows p c) c rest) is
+      (by (allows p c) (All-weaker (IsOfCandidate cs) (IsOfCandidate (c ∷ cs)) (λ h k. (k.0, contains_more c cs k.0 k.1, k.2)) rest (kept_candidates r cs rest q more)))
     where
       by : (b : Bool) → All (IsOfCandidate (c ∷ cs)) rest → All (IsOfCandidate (c ∷ cs)) (with_answer b c rest)
-      by true h = All-cons _ c.host rest (c, contains_first c cs, refl) h
+      by true h = All-cons (IsOfCandidate (c ∷ cs)) c.host rest (c, contains_first c cs, refl) h
       by false h = h
 
 -- ---- Writes
@@ -238,36 +241,37 @@ all_avoiding P (Some host) ds h = all_or_else P _ ds (All-filter (λ d. not (is_
 primaries_alone : (need : Need) (ds : List ServerDescription) → need ≡ Write → All (λ d. d.kind ≡ server.Primary) (of_set need ds)
 primaries_alone need ds e =
     subst (λ n. All (λ (d : ServerDescription). d.kind ≡ server.Primary) (of_set n ds)) (sym e)
-        (All-weaker _ _ (λ (d : ServerDescription) t. primary_is d.kind t) (filter is_primary ds) (filter_passes is_primary ds))
+    (All-weaker (λ (d : ServerDescription). is_primary d ≡ true) (λ (d : ServerDescription). d.kind ≡ server.Primary) (λ d t. primary_is d.kind t) (filter is_primary ds) (filter_passes is_primary ds))
 
 writes_suit : (kind : TopoKind) (criteria : Criteria) (ds : List ServerDescription) → criteria.need ≡ Write → All (λ d. TakesWrites kind d.kind) (suitable kind criteria ds)
-writes_suit topo.Unknown criteria ds e = All-nil _
+writes_suit topo.Unknown criteria ds e = All-nil (λ (d : ServerDescription). TakesWrites topo.Unknown d.kind)
 writes_suit topo.Single criteria ds e = filter_passes is_known ds
 writes_suit topo.Sharded criteria ds e =
-    all_avoiding _ criteria.avoid (filter is_mongos ds) (All-weaker _ _ (λ (d : ServerDescription) t. mongos_is d.kind t) (filter is_mongos ds) (filter_passes is_mongos ds))
+    all_avoiding (λ (d : ServerDescription). d.kind ≡ server.Mongos) criteria.avoid (filter is_mongos ds)
+    (All-weaker (λ (d : ServerDescription). is_mongos d ≡ true) (λ (d : ServerDescription). d.kind ≡ server.Mongos) (λ d t. mongos_is d.kind t) (filter is_mongos ds) (filter_passes is_mongos ds))
 writes_suit topo.NoPrimary criteria ds e = primaries_alone criteria.need ds e
 writes_suit topo.WithPrimary criteria ds e = primaries_alone criteria.need ds e
 
 pub write_candidates : (t : Topology) (criteria : Criteria) (load : Address → ℕ) → criteria.need ≡ Write → All (λ (c : Candidate). TakesWrites t.kind c.kind) (candidates t criteria load)
-write_candidates t criteria load e = All-map _ (candidate_of load) (suitable t.kind criteria (map.values t.servers)) (writes_suit t.kind criteria (map.values t.servers) e)
+write_candidates t criteria load e = All-map (λ (c : Candidate). TakesWrites t.kind c.kind) (candidate_of load) (suitable t.kind criteria (map.values t.servers)) (writes_suit t.kind criteria (map.values t.servers) e)
 
 -- ---- Nearest
 
 contains_filter : {A : Type 0} (p : A → Bool) (xs : List A) → All (λ x. p x ≡ true → Contains (filter p xs) x) xs
-contains_filter p [] = All-nil _
-contains_filter {A} p (x ∷ xs) = by (p x) refl
+contains_filter p [] = All-nil (λ x. p x ≡ true → Contains [] x)
+contains_filter {A} p (x ∷ xs) = by (p x) refl (contains_filter p xs)
   where
-    by : (b : Bool) → p x ≡ b → All (λ y. p y ≡ true → Contains (cond b (x ∷ filter p xs) (filter p xs)) y) (x ∷ xs)
-    by true e = All-cons _ x xs (λ _. contains_first x (filter p xs)) (All-weaker _ _ (λ y h t. contains_more x (filter p xs) y (h t)) xs (contains_filter p xs))
-    by false e = All-cons _ x xs (λ t. absurd (true≢false (sym t ∙ e))) (contains_filter p xs)
+    by : (b : Bool) → p x ≡ b → All (λ y. p y ≡ true → Contains (filter p xs) y) xs → All (λ y. p y ≡ true → Contains (cond b (x ∷ filter p xs) (filter p xs)) y) (x ∷ xs)
+    by true e ih =
+        All-cons (λ y. p y ≡ true → Contains (x ∷ filter p xs) y) x xs (λ _. contains_first x (filter p xs))
+        (All-weaker (λ y. p y ≡ true → Contains (filter p xs) y) (λ y. p y ≡ true → Contains (x ∷ filter p xs) y) (λ y h t. contains_more x (filter p xs) y (h t)) xs ih)
+    by false e ih = All-cons (λ y. p y ≡ true → Contains (filter p xs) y) x xs (λ t. absurd (true≢false (sym t ∙ e))) ih
 
 contains_map : {A B : Type 0} (f : A → B) (xs : List A) → All (λ x. Contains (map f xs) (f x)) xs
-contains_map f [] = All-nil _
-contains_map f (x ∷ xs) = All-cons _ x xs (contains_first (f x) (map f xs)) (All-weaker _ _ (λ y h. contains_more (f x) (map f xs) (f y) h) xs (contains_map f xs))
-
-or_true : (b : Bool) → (b || true) ≡ true
-or_true true = refl
-or_true false = refl
+contains_map f [] = All-nil (λ x. Contains [] (f x))
+contains_map f (x ∷ xs) =
+    All-cons (λ y. Contains (f x ∷ map f xs) (f y)) x xs (contains_first (f x) (map f xs))
+    (All-weaker (λ y. Contains (map f xs) (f y)) (λ y. Contains (f x ∷ map f xs) (f y)) (λ y h. contains_more (f x) (map f xs) (f y) h) xs (contains_map f xs))
 
 member_is : (d : ServerDescription) → BearsSetData d.kind → is_member d ≡ true
 member_is d (inl e) = ap (λ k. is_primary_kind k || is_secondary_kind d.kind) e
@@ -278,8 +282,9 @@ nearest_set need p ds e m s = ap (λ n. of_set n ds) e ∙ (λ i. of_mode (m i) 
 
 pub nearest_candidates : (t : Topology) (criteria : Criteria) (load : Address → ℕ) (p : Bor Preference) (d : ServerDescription) → IsSet t.kind → criteria.need ≡ Read p → p.now.mode ≡ mode.Nearest → p.now.tag_sets ≡ [] → Contains (map.values t.servers) d → BearsSetData d.kind → Contains (candidates t criteria load) (candidate_of load d)
 nearest_candidates t criteria load p d set need m s there bears =
-    All-contains _ (suitable t.kind criteria ds) d (contains_map (candidate_of load) (suitable t.kind criteria ds))
-        (subst (λ xs. Contains xs d) (sym (suits set ∙ nearest_set criteria.need p ds need m s)) (All-contains _ ds d (contains_filter is_member ds) there (member_is d bears)))
+    All-contains (λ x. Contains (map (candidate_of load) (suitable t.kind criteria ds)) (candidate_of load x)) (suitable t.kind criteria ds) d (contains_map (candidate_of load) (suitable t.kind criteria ds))
+    (subst (λ xs. Contains xs d) (sym (suits set ∙ nearest_set criteria.need p ds need m s))
+    (All-contains (λ x. is_member x ≡ true → Contains (filter is_member ds) x) ds d (contains_filter is_member ds) there (member_is d bears)))
   where
     ds : List ServerDescription
     ds = map.values t.servers

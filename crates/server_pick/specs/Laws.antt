@@ -17,7 +17,7 @@ use Rattle.server_pick.specs.declared.criteria.Criteria.{Criteria}
 -- The host was kept, and its mean is longer than no kept one's by more than the threshold (Server Selection, Selecting servers
 -- within the latency window).
 pub record IsNear (m : ServerMap) (threshold : ℕ) (kept : List Address) (host : Address) : Type 0 where
-  pub kept : Contains kept host
+  pub there : Contains kept host
   pub near : All (λ other. mean_of m host ≤ mean_of m other + threshold) kept
 
 -- The host is that of a candidate.

@@ -1,6 +1,6 @@
 ghost use Rattle.std.specs.Prelude.{◌≡◌, ◌<◌, ◌++◌, length};
 ghost use Rattle.std.specs.VecDeque.{deque_len, deque_capacity};
-ghost use Rattle.server_pick.specs.Asked.{Asks, kept_of};
+ghost use Rattle.server_pick.specs.Asked.{Asks, AsksFirst, kept_of};
 
 use crate::{Candidate, Picker};
 use std::collections::VecDeque;
@@ -16,6 +16,17 @@ fn ask<P: Picker>(picker: &mut P, candidate: Candidate, others: &mut VecDeque<Ca
     }
 }
 
+/// Asks the picker of the candidate at the front.
+fn ask_first<P: Picker>(picker: &mut P, left: &mut VecDeque<Candidate>)
+    requires { 0 < length left.old.items }
+    ensures { AsksFirst P.allows P.follows picker.old left.old.items left.new.items picker.new }
+{
+    let Some(candidate) = left.pop_front() else {
+        return;
+    };
+    ask(picker, candidate, left);
+}
+
 /// Asks the picker of each candidate once, in order, and gives those that it keeps. It takes no memory: each candidate leaves
 /// the front, and those that are kept go behind the rest.
 pub fn ask_all<P: Picker>(picker: &mut P, candidates: Vec<Candidate>) -> Vec<Candidate>
@@ -24,9 +35,7 @@ pub fn ask_all<P: Picker>(picker: &mut P, candidates: Vec<Candidate>) -> Vec<Can
     let count = candidates.len();
     let mut left = VecDeque::from(candidates);
     for place in 0..count {
-        if let Some(candidate) = left.pop_front() {
-            ask(picker, candidate, &mut left);
-        }
+        ask_first(picker, &mut left);
     }
     left.into_vec()
 }

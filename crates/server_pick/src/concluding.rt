@@ -13,7 +13,7 @@ use std::collections::VecDeque;
 /// The chosen one's host, copied into the room for its name; none fits where none is chosen.
 fn chosen(candidate: Option<&Candidate>, name: String) -> Picked
     requires empty { string_bytes name ≡ [] }
-    requires room { IfSome candidate.entry (λ c. HasRoomAt (string_capacity name) c.now) }
+    requires room { IfSome candidate (λ c. HasRoomAt (string_capacity name) c.now) }
     ensures { result ≡ chosen_picked (option_copied candidate.entry) }
 {
     let Some(candidate) = candidate else {
@@ -44,6 +44,7 @@ fn hosts_of(kept: Vec<Candidate>, room: Buffer<Host>) -> Rows<Host>
 }
 
 /// What is told of the candidates that were kept, and their hosts. It takes no memory.
+#[tactic(auto, using(crate::proofs::PickLemmas::chosen_has_room))]
 pub fn conclude(
     room: Room,
     kept: Vec<Candidate>,
@@ -63,10 +64,11 @@ pub fn conclude(
         name,
         misfit,
     } = room;
-    let chosen = chosen(choose(kept.as_slice(), threshold, w1, w2), name);
+    let best = choose(kept.as_slice(), threshold, w1, w2);
+    let fitting = chosen(best, name);
     let picked = match misfit {
         Some(told) => told,
-        None => chosen,
+        None => fitting,
     };
     (picked, hosts_of(kept, hosts))
 }

@@ -1,5 +1,6 @@
 ghost use Rattle.std.specs.Prelude.{◌≡◌, IfOk, OnOk, filter, map as map_lem};
 ghost use Rattle.std.specs.FinMap as map;
+ghost use Rattle.topo_rules.specs.Maps.{StandAtHosts};
 ghost use Rattle.server_pick.specs.Candidates.{candidate_of as candidate_of_lem};
 ghost use Rattle.server_pick.specs.Gathered.{with_passing};
 ghost use Rattle.server_pick.specs.Sieves.{passes};
@@ -53,7 +54,8 @@ pub fn gather<L: Loads>(
     sieve: &Sieve<'_>,
     loads: &L,
 ) -> Result<Vec<Candidate>, Memory>
-    ensures { IfOk result (λ cs. cs.items ≡ map_lem (candidate_of_lem (L.load loads.now)) (filter (passes sieve.now) (map.values topology.now.servers))) }
+    ensures candidates { IfOk result (λ cs. cs.items ≡ map_lem (candidate_of_lem (L.load loads.now)) (filter (passes sieve.now) (map.values topology.now.servers))) }
+    ensures hosts { IfOk result (λ _. StandAtHosts topology.now.servers) }
 {
     let mut candidates = Vec::new(alloc);
     for place in 0..topology.len() {

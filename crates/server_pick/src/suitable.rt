@@ -1,4 +1,4 @@
-ghost use Rattle.std.specs.Prelude.{◌≡◌, filter, slice_get};
+ghost use Rattle.std.specs.Prelude.{◌≡◌, false, filter, slice_get};
 ghost use Rattle.std.specs.FinMap as map;
 ghost use Rattle.std.specs.List.{list_any};
 ghost use Rattle.std.specs.Option.{option_map_or};
@@ -55,17 +55,18 @@ fn tagged<'a>(topology: &Topology, kinds: Kinds, tag_sets: &'a [TagSet]) -> Siev
 }
 
 /// The first sieve where some server passes it, else the second.
+#[tactic(auto, using(crate::proofs::SieveLemmas::or_else_taken, crate::proofs::SieveLemmas::or_else_other))]
 fn or_else<'a>(topology: &Topology, sieve: Sieve<'a>, other: Sieve<'a>) -> Sieve<'a>
-    ensures { filter (passes result) (map.values topology.now.servers) ≡ or_else_lem (filter (passes sieve) (map.values topology.now.servers)) (filter (passes other) (map.values topology.now.servers)) }
+    ensures { filter (passes result) (map.values topology.now.servers) ≡ or_else_lem (filter (passes sieve.entry) (map.values topology.now.servers)) (filter (passes other.entry) (map.values topology.now.servers)) }
 {
     if some_pass(topology, &sieve) {
-        sieve
-    } else {
-        other
+        return sieve;
     }
+    other
 }
 
 /// The members of a replica set that a read may go to.
+#[tactic(auto, using(crate::proofs::SieveLemmas::mode_primary, crate::proofs::SieveLemmas::mode_primary_preferred, crate::proofs::SieveLemmas::mode_secondary, crate::proofs::SieveLemmas::mode_secondary_preferred, crate::proofs::SieveLemmas::mode_nearest))]
 fn of_mode<'a>(topology: &Topology, preference: &'a ReadPref) -> Sieve<'a>
     ensures { filter (passes result) (map.values topology.now.servers) ≡ of_mode_lem preference.now.mode preference.now.tag_sets (map.values topology.now.servers) }
 {
@@ -89,8 +90,9 @@ fn of_mode<'a>(topology: &Topology, preference: &'a ReadPref) -> Sieve<'a>
 }
 
 /// The members of a replica set that may take what is needed.
+#[tactic(auto, using(crate::proofs::SieveLemmas::set_write, crate::proofs::SieveLemmas::set_read))]
 fn of_set<'a>(topology: &Topology, need: Need<'a>) -> Sieve<'a>
-    ensures { filter (passes result) (map.values topology.now.servers) ≡ of_set_lem need (map.values topology.now.servers) }
+    ensures { filter (passes result) (map.values topology.now.servers) ≡ of_set_lem need.entry (map.values topology.now.servers) }
 {
     match need {
         Need::Write => Sieve::of(Kinds::Primary),
@@ -99,6 +101,7 @@ fn of_set<'a>(topology: &Topology, need: Need<'a>) -> Sieve<'a>
 }
 
 /// The routers of a sharded cluster, without the one to avoid where there is another.
+#[tactic(auto, using(crate::proofs::SieveLemmas::sharded_other, crate::proofs::SieveLemmas::sharded_all))]
 fn of_sharded<'a>(topology: &Topology, avoid: Option<&'a Host>) -> Sieve<'a>
     ensures { filter (passes result) (map.values topology.now.servers) ≡ of_sharded_lem avoid.entry (map.values topology.now.servers) }
 {
@@ -117,6 +120,7 @@ fn of_sharded<'a>(topology: &Topology, avoid: Option<&'a Host>) -> Sieve<'a>
 }
 
 /// Which servers of the topology are suitable.
+#[tactic(auto, using(crate::proofs::SieveLemmas::suits_unknown, crate::proofs::SieveLemmas::suits_single, crate::proofs::SieveLemmas::suits_sharded, crate::proofs::SieveLemmas::suits_no_primary, crate::proofs::SieveLemmas::suits_with_primary))]
 pub fn suitable<'a>(topology: &Topology, criteria: &Criteria<'a>) -> Sieve<'a>
     ensures { filter (passes result) (map.values topology.now.servers) ≡ suitable_lem topology.now.kind criteria.now (map.values topology.now.servers) }
 {

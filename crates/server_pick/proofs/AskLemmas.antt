@@ -69,7 +69,7 @@ module _ {S : Type 0} (allows : S → Candidate → Bool) (follows : S → Candi
   -- what holds of all candidates holds of those that were kept
   pub all_of_asks : (P : Candidate → Type 0) (p : S) (cs ks : List Candidate) (q : S) → Asks allows follows p cs ks q → All P cs → All P ks
   all_of_asks P p [] ks q a h = All-same P ks [] a.0 (All-nil P)
-  all_of_asks P p (c ∷ cs) ks q (r, step, rest, kept, more) h =
+  all_of_asks P p (c ∷ cs) ks q (r, step, (rest, kept, more)) h =
       All-same P ks _ kept (All-append P (kept_of (allows p c) c) rest (by (allows p c)) (all_of_asks P r cs rest q more (All-tail P c cs h)))
     where
       by : (b : Bool) → All P (kept_of b c)

@@ -1,6 +1,6 @@
 -- What the sieves let through, in the words of the definitions.
 use denote.Ref.{Bor}
-use Rattle.std.proofs.Common.{◌≡◌, ℕ, ◌+◌, ◌<◌, Bool, true, false, cond, not, ◌&&◌, if◌then◌else◌, List, [], ◌∷◌, ◌++◌, Option, None, Some, is_some, refl, sym, ap, ◌∙◌, arith, append-nil, filter, find, map, length, slice_get, get_or, take, drop, ◌==◌, true≢false}
+use Rattle.std.proofs.Common.{◌≡◌, ℕ, ◌+◌, ◌<◌, ◌≤◌, Bool, true, false, cond, not, ◌&&◌, if◌then◌else◌, List, [], ◌∷◌, ◌++◌, Option, None, Some, is_some, refl, sym, ap, ◌∙◌, arith, append-nil, filter, find, map, length, slice_get, get_or, take, drop, ◌==◌, true≢false}
 use Rattle.std.proofs.lemmas.List.{drop_all, drop_more, map-append}
 use Rattle.std.proofs.lemmas.List.Elements.{filter-append, filter_agree}
 use Rattle.std.specs.List.{list_any}
@@ -44,18 +44,9 @@ plain_passes ks ds = filter_agree (passes (plain ks)) (lets ks) (λ d. one_test 
 pub nothing_passes : (ds : List ServerDescription) → filter (passes (plain kinds.Nothing)) ds ≡ []
 nothing_passes ds = filter_none (passes (plain kinds.Nothing)) (λ d. refl) ds
 
--- the sieve of one tag set, and of one host to avoid
-abbrev pub tag_sieve : Kinds → Bor (List Tag) → Sieve
-tag_sieve ks tags = record { kinds = ks; tags = Some tags; avoid = None }
-
+-- the sieve of one host to avoid
 abbrev pub other_sieve : Kinds → Bor Address → Sieve
 other_sieve ks host = record { kinds = ks; tags = None; avoid = Some host }
-
-pub tags_pass : (ks : Kinds) (tags : Bor (List Tag)) (ds : List ServerDescription) → filter (passes (tag_sieve ks tags)) ds ≡ filter (fits tags.now) (filter (lets ks) ds)
-tags_pass ks tags ds = filter_both (lets ks) (fits tags.now) (passes (tag_sieve ks tags)) (λ d. two_tests (lets ks d) (fits tags.now d)) ds
-
-pub some_tags_pass : (ks : Kinds) (tags : Bor (List Tag)) (ds : List ServerDescription) → list_any (passes (tag_sieve ks tags)) ds ≡ list_any (fits tags.now) (filter (lets ks) ds)
-some_tags_pass ks tags ds = any_both (lets ks) (fits tags.now) (passes (tag_sieve ks tags)) (λ d. two_tests (lets ks d) (fits tags.now d)) ds
 
 pub others_pass : (ks : Kinds) (host : Bor Address) (ds : List ServerDescription) → filter (passes (other_sieve ks host)) ds ≡ filter (λ d. not (is_same_address d.host host.now)) (filter (lets ks) ds)
 others_pass ks host ds = filter_both (lets ks) (λ d. not (is_same_address d.host host.now)) (passes (other_sieve ks host)) (λ d. outer_tests (lets ks d) (not (is_same_address d.host host.now))) ds
@@ -80,21 +71,24 @@ drop_item xs i x h e = drop_more xs i x h ∙ ap (λ z. z ∷ drop (i + 1) xs) (
 
 -- ---- The tag sets, one after another
 
-module _ (ks : Kinds) (tags : Bor (List Tag)) (sets : List (List Tag)) (i : ℕ) (ds : List ServerDescription) (within : i < length sets) (item : tags.now ≡ get_or sets i tags.now) where
-  pub tagged_found : deciding (drop i sets) (filter (lets ks) ds) ≡ deciding sets (filter (lets ks) ds) → list_any (passes (tag_sieve ks tags)) ds ≡ true
-      → filter (passes (tag_sieve ks tags)) ds ≡ tagged sets (filter (lets ks) ds)
-  tagged_found so_far some =
-      let fit : list_any (fits tags.now) (filter (lets ks) ds) ≡ true = sym (some_tags_pass ks tags ds) ∙ some in
-      let decides : deciding sets (filter (lets ks) ds) ≡ Some tags.now =
-      sym so_far ∙ ap (λ xs. deciding xs (filter (lets ks) ds)) (drop_item sets i tags.now within item) ∙ deciding_head tags.now (drop (i + 1) sets) (filter (lets ks) ds) fit in
-      tags_pass ks tags ds ∙ sym (tagged_some sets (filter (lets ks) ds) tags.now decides)
+module _ (ks : Kinds) (tags : List Tag) (sets : List (List Tag)) (i : ℕ) (ds : List ServerDescription) (within : i < length sets) (item : tags ≡ get_or sets i tags) where
+  -- p is what passes the sieve of the kinds and the tag set
+  module _ (p : ServerDescription → Bool) (is : (d : ServerDescription) → p d ≡ (lets ks d && fits tags d && true)) (so_far : deciding (drop i sets) (filter (lets ks) ds) ≡ deciding sets (filter (lets ks) ds)) where
+    tests : (d : ServerDescription) → p d ≡ (lets ks d && fits tags d)
+    tests d = is d ∙ two_tests (lets ks d) (fits tags d)
 
-  pub tagged_passed : deciding (drop i sets) (filter (lets ks) ds) ≡ deciding sets (filter (lets ks) ds) → list_any (passes (tag_sieve ks tags)) ds ≡ false
-      → deciding (drop (i + 1) sets) (filter (lets ks) ds) ≡ deciding sets (filter (lets ks) ds)
-  tagged_passed so_far none =
-      let unfit : list_any (fits tags.now) (filter (lets ks) ds) ≡ false = sym (some_tags_pass ks tags ds) ∙ none in
-      sym (deciding_tail tags.now (drop (i + 1) sets) (filter (lets ks) ds) unfit)
-      ∙ sym (ap (λ xs. deciding xs (filter (lets ks) ds)) (drop_item sets i tags.now within item)) ∙ so_far
+    pub tagged_found : list_any p ds ≡ true → filter p ds ≡ tagged sets (filter (lets ks) ds)
+    tagged_found some =
+        let fit : list_any (fits tags) (filter (lets ks) ds) ≡ true = sym (any_both (lets ks) (fits tags) p tests ds) ∙ some in
+        let decides : deciding sets (filter (lets ks) ds) ≡ Some tags =
+        sym so_far ∙ ap (λ xs. deciding xs (filter (lets ks) ds)) (drop_item sets i tags within item) ∙ deciding_head tags (drop (i + 1) sets) (filter (lets ks) ds) fit in
+        filter_both (lets ks) (fits tags) p tests ds ∙ sym (tagged_some sets (filter (lets ks) ds) tags decides)
+
+    pub tagged_passed : list_any p ds ≡ false → deciding (drop (i + 1) sets) (filter (lets ks) ds) ≡ deciding sets (filter (lets ks) ds)
+    tagged_passed none =
+        let unfit : list_any (fits tags) (filter (lets ks) ds) ≡ false = sym (any_both (lets ks) (fits tags) p tests ds) ∙ none in
+        sym (deciding_tail tags (drop (i + 1) sets) (filter (lets ks) ds) unfit)
+        ∙ sym (ap (λ xs. deciding xs (filter (lets ks) ds)) (drop_item sets i tags within item)) ∙ so_far
 
 pub tagged_ends : (ks : Kinds) (sets : List (List Tag)) (i : ℕ) (ds : List ServerDescription) (s : Sieve) → (length sets == 0) ≡ false → length sets ≤ i
     → deciding (drop i sets) (filter (lets ks) ds) ≡ deciding sets (filter (lets ks) ds) → s ≡ plain kinds.Nothing → filter (passes s) ds ≡ tagged sets (filter (lets ks) ds)

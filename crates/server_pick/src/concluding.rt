@@ -44,7 +44,6 @@ fn hosts_of(kept: Vec<Candidate>, room: Buffer<Host>) -> Rows<Host>
 }
 
 /// What is told of the candidates that were kept, and their hosts. It takes no memory.
-#[tactic(auto, using(crate::proofs::PickLemmas::chosen_has_room))]
 pub fn conclude(
     room: Room,
     kept: Vec<Candidate>,

@@ -8,7 +8,7 @@ loop-place-init g c = asking_begins g.P.Picker.allows g.P.Picker.follows _ _ _ (
 pub ask_first-requires : goal.ask_first-requires
 ask_first-requires g c =
     let within : c.loop-place.place < length c.args.candidates.items = search rules in
-    asking_left g.P.Picker.allows g.P.Picker.follows _ _ _ _ _ c.loop-place.invariant within
+    (search rules, asking_left g.P.Picker.allows g.P.Picker.follows _ _ _ _ _ c.loop-place.invariant within)
 
 pub loop-place-preserved : goal.loop-place-preserved
 loop-place-preserved g c =

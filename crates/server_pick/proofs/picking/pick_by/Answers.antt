@@ -1,11 +1,13 @@
-use Rattle.std.proofs.Common.{sym, ap, subst, ◌∙◌, arith, string_capacity}
+use Rattle.std.proofs.Common.{sym, ap, subst, ◌∙◌, arith}
+use Rattle.std.specs.Prelude.{string_capacity}
+use Rattle.server_pick.specs.Candidates.{candidates}
 use Rattle.server_pick.specs.Concluded.{outcome}
 use Rattle.server_pick.specs.Picks.{picks}
 use Rattle.server_pick.specs.Prepared.{HasRoomAt, IsTrueTo}
 use Rattle.server_pick.specs.Runs.{Runs}
 use Rattle.server_pick.specs.Windows.{choice, window}
 use Rattle.server_pick.specs.declared.candidate.Candidate.{Candidate}
-use Rattle.server_pick.proofs.AskLemmas.{runs_of_asks, all_of_asks, length_of_asks}
+use Rattle.server_pick.proofs.AskLemmas.{hosts_of, runs_of_asks, all_of_asks, length_of_asks}
 use Rattle.server_pick.proofs.PickLemmas.{picks_kept}
 use Rattle.server_pick.proofs.picking.pick_by.Goals as goal
 
@@ -19,8 +21,9 @@ conclude-picked-requires-clause-name_room g c =
 
 pub returns-clause-run : goal.returns-clause-run
 returns-clause-run g c =
-    λ _. subst (λ hs. Runs g.P.Picker.allows g.P.Picker.follows c.args.picker.now _ hs c.ask_all-allowed.new.picker) (sym c.conclude-picked.ensures.hosts)
-    (subst (λ cs. Runs g.P.Picker.allows g.P.Picker.follows c.args.picker.now cs _ c.ask_all-allowed.new.picker) c.in-Ok.ensures.candidates
+    λ _. subst (λ hs. Runs g.P.Picker.allows g.P.Picker.follows c.args.picker.now (candidates c.args.topology.now c.args.criteria.now (g.L.Loads.load c.args.loads.now)) hs c.ask_all-allowed.new.picker)
+    (sym c.conclude-picked.ensures.hosts)
+    (subst (λ cs. Runs g.P.Picker.allows g.P.Picker.follows c.args.picker.now cs (hosts_of c.ask_all-allowed.result.items) c.ask_all-allowed.new.picker) c.in-Ok.ensures.candidates
     (runs_of_asks g.P.Picker.allows g.P.Picker.follows _ _ _ _ c.ask_all-allowed.ensures))
 
 pub returns-clause-answer : goal.returns-clause-answer

@@ -3,6 +3,7 @@ pub mod Candidates
 pub mod Concluded
 pub mod Gathered
 pub mod Laws
+pub mod Objects
 pub mod Picks
 pub mod Prepared
 pub mod Runs

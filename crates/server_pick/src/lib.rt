@@ -2,7 +2,8 @@
 //!
 //! [`pick_by`] filters the servers by what an operation needs, its [`Criteria`], shows each that is left to a [`Picker`], in
 //! the order of hosts, and draws one of those kept whose mean round trip time is within the latency window. It answers the
-//! host, or why there is none, a [`Picked`]. How many operations are in flight is told by [`Loads`].
+//! host, or why there is none, a [`Picked`]. How many operations are in flight is told by [`Loads`]. [`pick`] does the same with a
+//! picker and loads that are objects.
 //!
 //! Calls that allocate take an allocator first, and all memory is taken before the picker is asked.
 #![tactic(auto)]
@@ -15,6 +16,7 @@ mod criteria;
 mod gathering;
 pub mod laws;
 mod loads;
+mod objects;
 mod picked;
 mod picker;
 mod picking;
@@ -29,6 +31,7 @@ mod window;
 pub use candidate::Candidate;
 pub use criteria::{Criteria, Need};
 pub use loads::Loads;
+pub use objects::pick;
 pub use picked::Picked;
 pub use picker::{KeepAll, Picker};
 pub use picking::pick_by;

@@ -1,5 +1,5 @@
 //! Each public call on its happy path, with a picker and loads of their own types. The crate `pick_cases` runs tables.
-use crate::{Candidate, Criteria, KeepAll, Loads, Need, Picked, Picker, pick_by};
+use crate::{Candidate, Criteria, KeepAll, Loads, Need, Picked, Picker, pick, pick_by};
 use bson_doc::{Rows, Text};
 use hello_reply::{ServerKind, default_unknown};
 use host_name::Host;
@@ -67,52 +67,89 @@ fn set(alloc: Global) -> Result<Topology, Fail> {
     Ok(topology)
 }
 
+/// Reads by this preference, and so long a window.
+fn reading(preference: &ReadPref) -> Criteria<'_> {
+    Criteria {
+        need: Need::Read(preference),
+        avoid: None,
+        threshold_micros: 15_000,
+    }
+}
+
+/// The port of the host that was chosen.
+fn chosen_port(picked: &Picked) -> Option<u16> {
+    match picked {
+        Picked::Chosen(host) => Some(host.port()),
+        _ => None,
+    }
+}
+
 #[test]
-fn servers_are_picked(rt: HostRuntime) -> Result<(), Fail> {
+fn servers_are_picked_by_types(rt: HostRuntime) -> Result<(), Fail> {
     let topology = set(rt.alloc())?;
     let nearest = ReadPref::new(Mode::Nearest, Rows::new(rt.alloc()))?;
     let mut kept = Rows::new(rt.alloc());
-    let reading = Criteria {
-        need: Need::Read(&nearest),
-        avoid: None,
-        threshold_micros: 15_000,
-    };
-    let mut picker = KeepAll;
     let picked = pick_by(
         rt.alloc(),
         &topology,
-        &reading,
-        &mut picker,
+        &reading(&nearest),
+        &mut KeepAll,
         &ByPort,
         1,
         0,
         &mut kept,
     );
-    assert!(rt; matches!(picked, Picked::Chosen(host) if host.port() == 1));
+    assert_eq!(rt; chosen_port(&picked), Some(1));
     assert_eq!(rt; kept.len(), 2);
-    let mut picker = AllBut(1);
+    Ok(())
+}
+
+#[test]
+fn pickers_keep_some(rt: HostRuntime) -> Result<(), Fail> {
+    let topology = set(rt.alloc())?;
+    let nearest = ReadPref::new(Mode::Nearest, Rows::new(rt.alloc()))?;
+    let mut kept = Rows::new(rt.alloc());
     let picked = pick_by(
         rt.alloc(),
         &topology,
-        &reading,
-        &mut picker,
+        &reading(&nearest),
+        &mut AllBut(1),
         &ByPort,
         0,
         0,
         &mut kept,
     );
-    assert!(rt; matches!(picked, Picked::Chosen(host) if host.port() == 2));
+    assert_eq!(rt; chosen_port(&picked), Some(2));
     assert_eq!(rt; kept.len(), 1);
+    Ok(())
+}
+
+#[test]
+fn servers_are_picked_by_objects(rt: HostRuntime) -> Result<(), Fail> {
+    let topology = set(rt.alloc())?;
+    let mut kept = Rows::new(rt.alloc());
     let writing = Criteria {
         need: Need::Write,
         avoid: None,
         threshold_micros: 0,
     };
-    let picked = pick_by(
+    let picked = pick(
         rt.alloc(),
         &topology,
         &writing,
-        &mut picker,
+        &mut AllBut(2),
+        &ByPort,
+        7,
+        7,
+        &mut kept,
+    );
+    assert_eq!(rt; chosen_port(&picked), Some(1));
+    assert_eq!(rt; kept.len(), 1);
+    let picked = pick(
+        rt.alloc(),
+        &topology,
+        &writing,
+        &mut AllBut(1),
         &ByPort,
         0,
         0,

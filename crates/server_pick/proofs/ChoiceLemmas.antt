@@ -1,52 +1,11 @@
 -- The window and the choice of two, of items and of what they are mapped to.
-use Rattle.std.proofs.Common.{◌≡◌, ℕ, zero, suc, ◌+◌, ◌-◌, ◌%◌, ◌<◌, ◌≤◌, min, Bool, true, false, cond, if◌then◌else◌, List, [], ◌∷◌, ◌++◌, Option, None, Some, refl, sym, ap, subst, ◌∙◌, arith, filter, length, map, slice_get, take, drop, option_map, nat_le, nat_lt}
+use Rattle.std.proofs.Common.{◌≡◌, ℕ, zero, suc, ◌+◌, ◌-◌, ◌%◌, Bool, true, false, cond, if◌then◌else◌, List, [], ◌∷◌, ◌++◌, Option, None, Some, refl, sym, ap, ◌∙◌, filter, length, map, slice_get, take, drop, option_map, nat_le, nat_lt}
 use Rattle.std.proofs.lemmas.List.{length-map, drop-map, map-append}
-use Rattle.std.proofs.lemmas.List.Elements.{All-nil, All-cons, All-head, All-tail, All-append, All-take, All-drop, All-filter}
+use Rattle.std.proofs.lemmas.List.Elements.{All-nil, All-head, All-tail, All-append, All-take, All-drop, All-filter}
 use Rattle.std.proofs.lemmas.Option.{slice_get-map}
 use Rattle.std.specs.List.{All, remove}
 use Rattle.std.specs.Option.{IfSome}
-use Rattle.server_pick.specs.Windows.{lesser, least_of, within, window, lighter, lighter_of, choice}
-
--- ---- The least, item by item
-
-min_assoc : (a b c : ℕ) → min (min a b) c ≡ min a (min b c)
-min_assoc a b c = omega arith
-
-pub lesser_assoc : (a b c : Option ℕ) → lesser (lesser a b) c ≡ lesser a (lesser b c)
-lesser_assoc None b c = refl
-lesser_assoc (Some m) None c = refl
-lesser_assoc (Some m) (Some n) None = refl
-lesser_assoc (Some m) (Some n) (Some k) = ap Some (min_assoc m n k)
-
-pub lesser_none : (a : Option ℕ) → lesser a None ≡ a
-lesser_none None = refl
-lesser_none (Some m) = refl
-
--- ---- Items at places
-
-pub slice_get_remove_before : {A : Type 0} (xs : List A) (i j : ℕ) → j < i → slice_get (remove xs i) j ≡ slice_get xs j
-slice_get_remove_before xs zero j h = absurd (omega (arith, h))
-slice_get_remove_before [] (suc i) j h = refl
-slice_get_remove_before (x ∷ xs) (suc i) zero h = refl
-slice_get_remove_before (x ∷ xs) (suc i) (suc j) h = slice_get_remove_before xs i j (omega (arith, h))
-
-pub slice_get_remove_behind : {A : Type 0} (xs : List A) (i j : ℕ) → i ≤ j → slice_get (remove xs i) j ≡ slice_get xs (suc j)
-slice_get_remove_behind [] zero j h = refl
-slice_get_remove_behind [] (suc i) j h = refl
-slice_get_remove_behind (x ∷ xs) zero j h = refl
-slice_get_remove_behind (x ∷ xs) (suc i) zero h = absurd (omega (arith, h))
-slice_get_remove_behind (x ∷ xs) (suc i) (suc j) h = slice_get_remove_behind xs i j (omega (arith, h))
-
--- of one item there is no other
-pub slice_get_remove_only : {A : Type 0} (xs : List A) (i j : ℕ) → length xs ≡ 1 → i < 1 → slice_get (remove xs i) j ≡ None
-slice_get_remove_only xs (suc i) j e h = absurd (omega (arith, h))
-slice_get_remove_only [] zero j e h = refl
-slice_get_remove_only (x ∷ []) zero j e h = refl
-slice_get_remove_only (x ∷ y ∷ xs) zero j e h = absurd (omega (arith, e))
-
-pub slice_get_next : {A : Type 0} (x : A) (xs : List A) (i : ℕ) → 0 < i → slice_get (x ∷ xs) i ≡ slice_get xs (i - 1)
-slice_get_next x xs zero h = absurd (omega (arith, h))
-slice_get_next x xs (suc i) h = ap (slice_get xs) (omega arith)
+use Rattle.server_pick.specs.Windows.{lesser, least_of, within, window, lighter_of, choice}
 
 module _ {A : Type 0} (P : A → Type 0) where
   pub all_at : (xs : List A) (i : ℕ) → All P xs → IfSome (slice_get xs i) P

@@ -1,6 +1,6 @@
 -- What holds of the definitions of selection.
 use denote.Ref.{Bor}
-use Rattle.std.proofs.Common.{◌≡◌, ◌≢◌, ℕ, ℤ, suc, ◌+◌, ◌-◌, ◌%◌, ◌<◌, ◌≤◌, min, Bool, true, false, cond, not, ◌||◌, List, [], ◌∷◌, ◌++◌, Option, None, Some, is_some, refl, sym, ap, subst, ◌∙◌, arith, filter, length, map, slice_get, get_or, nat_le, leb-true, le-leb, leb-false, mod-lt, inl, inr, true≢false}
+use Rattle.std.proofs.Common.{◌≡◌, ◌≢◌, ℕ, ℤ, ◌+◌, ◌-◌, ◌%◌, ◌<◌, ◌≤◌, min, Bool, true, false, cond, not, ◌||◌, List, [], ◌∷◌, Option, None, Some, is_some, refl, sym, ap, subst, ◌∙◌, arith, filter, length, map, slice_get, nat_le, leb-true, le-leb, leb-false, mod-lt, inl, inr, true≢false}
 use Rattle.std.proofs.lemmas.List.Elements.{All-nil, All-cons, All-head, All-tail, All-weaker, All-map, All-filter, All-contains, All-contains_itself, All-same, filter_passes}
 use Rattle.std.proofs.lemmas.Option.{slice_get-get_or}
 use Rattle.std.specs.FinMap as map
@@ -11,9 +11,7 @@ use Rattle.hello_reply.specs.declared.server_description.ServerDescription.{Serv
 use Rattle.hello_reply.specs.declared.server_kind.ServerKind.{ServerKind}
 use Rattle.hello_reply.specs.declared.server_kind.ServerKind.TheVariants as server
 use Rattle.read_pref.specs.Preferences.{Preference}
-use Rattle.read_pref.specs.declared.mode.Mode.{Mode}
 use Rattle.read_pref.specs.declared.mode.Mode.TheVariants as mode
-use Rattle.read_pref.specs.declared.tag.Tag.{Tag}
 use Rattle.topo_rules.specs.Kinds.{is_known, is_primary, is_primary_kind}
 use Rattle.topo_rules.specs.Maps.{ServerMap}
 use Rattle.topo_rules.specs.Readings.{misfit_of}
@@ -24,13 +22,13 @@ use Rattle.server_pick.specs.Candidates.{is_mongos, is_mongos_kind, is_secondary
 use Rattle.server_pick.specs.Laws.{IsNear, IsOfCandidate, TakesWrites, IsSet, BearsSetData}
 use Rattle.server_pick.specs.Picks.{mean_of, chosen_of, told, picks}
 use Rattle.server_pick.specs.Runs.{Runs, with_answer}
-use Rattle.server_pick.specs.Windows.{lesser, least_of, within, window, lighter, lighter_of, choice}
+use Rattle.server_pick.specs.Windows.{lesser, least_of, within, window, lighter_of, choice}
 use Rattle.server_pick.specs.declared.candidate.Candidate.{Candidate}
 use Rattle.server_pick.specs.declared.criteria.Criteria.{Criteria}
 use Rattle.server_pick.specs.declared.criteria.Need.{Need}
 use Rattle.server_pick.specs.declared.criteria.Need.TheVariants.{Write, Read}
 use Rattle.server_pick.specs.declared.picked.Picked.{Picked}
-use Rattle.server_pick.specs.declared.picked.Picked.TheVariants.{Chosen, NoneFits, Incompatible, Memory}
+use Rattle.server_pick.specs.declared.picked.Picked.TheVariants.{Chosen, NoneFits, Incompatible}
 use Rattle.server_pick.proofs.ChoiceLemmas.{all_choice}
 
 -- ---- The least mean, and what is within the window

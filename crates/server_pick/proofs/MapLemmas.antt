@@ -1,5 +1,5 @@
 -- What the servers' map has at the host of each of its descriptions.
-use Rattle.std.proofs.Common.{◌≡◌, ℕ, Bool, true, false, cond, ◌&&◌, List, [], ◌∷◌, Option, None, Some, Ordering, refl, sym, ap, ◌∙◌, T, filter, map}
+use Rattle.std.proofs.Common.{◌≡◌, ℕ, Bool, true, false, cond, ◌&&◌, List, [], ◌∷◌, Some, Ordering, refl, ap, ◌∙◌, T, filter, map}
 use Rattle.std.proofs.lemmas.Cmp.{nat_cmp_total, nat_list_cmp_total}
 use Rattle.std.proofs.lemmas.List.Elements.{All-nil, All-cons, All-head, All-tail, All-weaker, All-map, All-filter}
 use Rattle.std.specs.Cmp.{IsTotalOrder, then_total, on_total, tied_itself}
@@ -7,13 +7,12 @@ use Rattle.std.specs.FinMap as map
 use Rattle.std.specs.FinMap.Entries.{below_all}
 use Rattle.std.specs.List.{All}
 use Rattle.std.specs.Option.{option_and_then, unwrap_or}
-use Rattle.std.specs.Ordering.{eq_by_cmp, is_eq, is_lt, ordering_reverse}
+use Rattle.std.specs.Ordering.{is_eq, is_lt, ordering_reverse}
 use Rattle.std.specs.declared.cmp.Ordering.TheVariants.{Less, Equal, Greater}
 use Rattle.host_name.specs.Addresses.{Address, address_cmp}
 use Rattle.hello_reply.specs.declared.server_description.ServerDescription.{ServerDescription}
 use Rattle.topo_rules.specs.Maps.{ServerMap, StandAtHosts}
 use Rattle.server_pick.specs.Candidates.{candidate_of}
-use Rattle.server_pick.specs.Picks.{mean_of}
 use Rattle.server_pick.specs.Prepared.{IsTrueTo}
 
 host_total : IsTotalOrder address_cmp

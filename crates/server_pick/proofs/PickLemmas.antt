@@ -1,5 +1,5 @@
 -- What is told of the kept candidates is what the definition tells of their hosts.
-use Rattle.std.proofs.Common.{◌≡◌, ℕ, Bool, true, false, List, Option, None, Some, refl, sym, ap, subst, ◌∙◌, map, option_map, true≢false}
+use Rattle.std.proofs.Common.{◌≡◌, ℕ, List, Option, None, Some, refl, sym, ap, subst, ◌∙◌, option_map}
 use Rattle.std.proofs.lemmas.List.Elements.{All-weaker}
 use denote.Ref.{Bor}
 use Rattle.std.specs.List.{All}
@@ -8,18 +8,13 @@ use Rattle.host_name.specs.Addresses.{Address}
 use Rattle.hello_reply.specs.declared.server_description.ServerDescription.{ServerDescription}
 use Rattle.topo_rules.specs.Maps.{ServerMap}
 use Rattle.topo_rules.specs.Readings.{misfit_of}
-use Rattle.server_pick.specs.Concluded.{chosen_picked, outcome}
+use Rattle.server_pick.specs.Concluded.{outcome}
 use Rattle.server_pick.specs.Picks.{mean_of, chosen_of, told, picks}
 use Rattle.server_pick.specs.Prepared.{HasRoomAt, IsTrueTo, incompatible}
 use Rattle.server_pick.specs.Windows.{window, least_of, choice}
 use Rattle.server_pick.specs.declared.candidate.Candidate.{Candidate}
-use Rattle.server_pick.specs.declared.picked.Picked.{Picked}
-use Rattle.server_pick.specs.declared.picked.Picked.TheVariants.{Chosen, NoneFits, Incompatible, Memory}
 use Rattle.server_pick.proofs.AskLemmas.{hosts_of}
 use Rattle.server_pick.proofs.ChoiceLemmas.{window_map, choice_map, all_within, all_choice}
-
-host_of : Candidate → Address
-host_of c = c.host
 
 pub chosen_kept : (m : ServerMap) (threshold : ℕ) (load : Address → ℕ) (w1 w2 : ℕ) (ks : List Candidate) → All (IsTrueTo m load) ks
     → chosen_of m threshold (hosts_of ks) load w1 w2 ≡ option_map (λ (c : Candidate). c.host) (choice (λ (c : Candidate). c.in_flight) w1 w2 (window (λ (c : Candidate). c.mean) threshold ks))
@@ -38,15 +33,6 @@ told_chosen None (Some c) = refl
 pub picks_kept : (m : ServerMap) (threshold : ℕ) (load : Address → ℕ) (w1 w2 : ℕ) (ks : List Candidate) → All (IsTrueTo m load) ks
     → picks m threshold (hosts_of ks) load w1 w2 ≡ outcome (option_map incompatible (misfit_of m)) (choice (λ (c : Candidate). c.in_flight) w1 w2 (window (λ (c : Candidate). c.mean) threshold ks))
 picks_kept m threshold load w1 w2 ks h = ap (told (misfit_of m)) (chosen_kept m threshold load w1 w2 ks h) ∙ told_chosen (misfit_of m) _
-
-abbrev is_memory : Picked → Bool
-is_memory Memory = true
-is_memory _ = false
-
-pub outcome_has_memory : (o : Option ServerDescription) (c : Option Candidate) → outcome (option_map incompatible o) c ≡ Memory → ⊥
-outcome_has_memory (Some d) c e = true≢false (sym (ap is_memory e))
-outcome_has_memory None None e = true≢false (sym (ap is_memory e))
-outcome_has_memory None (Some c) e = true≢false (sym (ap is_memory e))
 
 some_copied : (most : ℕ) (o : Option (Bor Candidate)) → IfSome (option_copied o) (HasRoomAt most) → IfSome o (λ c. HasRoomAt most c.now)
 some_copied most None h = tt

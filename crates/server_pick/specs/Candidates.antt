@@ -6,7 +6,6 @@ use Rattle.host_name.specs.Addresses.{Address, is_same_address}
 use Rattle.hello_reply.specs.declared.server_description.ServerDescription.{ServerDescription}
 use Rattle.hello_reply.specs.declared.server_kind.ServerKind.{ServerKind}
 use Rattle.hello_reply.specs.declared.server_kind.ServerKind.TheVariants as server
-use Rattle.read_pref.specs.Preferences.{Preference}
 use Rattle.read_pref.specs.declared.mode.Mode.{Mode}
 use Rattle.read_pref.specs.declared.mode.Mode.TheVariants as mode
 use Rattle.read_pref.specs.declared.tag.Tag.{Tag}

@@ -8,11 +8,8 @@ use Rattle.topo_rules.specs.Kinds.{is_known_kind}
 use Rattle.topo_rules.specs.Maps.{ServerMap}
 use Rattle.topo_rules.specs.declared.kind.TopoKind.{TopoKind}
 use Rattle.topo_rules.specs.declared.kind.TopoKind.TheVariants as topo
-use Rattle.topo_rules.specs.declared.topology.Topology.{Topology}
-use Rattle.server_pick.specs.Candidates.{candidates}
 use Rattle.server_pick.specs.Picks.{mean_of}
 use Rattle.server_pick.specs.declared.candidate.Candidate.{Candidate}
-use Rattle.server_pick.specs.declared.criteria.Criteria.{Criteria}
 
 -- The host was kept, and its mean is longer than no kept one's by more than the threshold (Server Selection, Selecting servers
 -- within the latency window).

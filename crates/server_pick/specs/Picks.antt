@@ -1,5 +1,5 @@
 -- What a selection comes to.
-use Rattle.std.specs.Prelude.{ℕ, List, [], Option, None, Some, unwrap_or}
+use Rattle.std.specs.Prelude.{ℕ, List, Option, None, Some, unwrap_or}
 use Rattle.host_name.specs.Addresses.{Address}
 use Rattle.hello_reply.specs.declared.server_description.ServerDescription.{ServerDescription}
 use Rattle.topo_rules.specs.Maps.{ServerMap, kept_mean}

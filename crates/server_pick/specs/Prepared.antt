@@ -1,16 +1,13 @@
 -- What is prepared before a picker is asked.
-use Rattle.std.specs.Prelude.{◌≡◌, ◌≤◌, ℕ, List, [], length, Option, string_bytes, string_capacity}
+use Rattle.std.specs.Prelude.{◌≡◌, ◌≤◌, ℕ, List, [], length, string_bytes, string_capacity}
 use Rattle.std.specs.List.{All}
 use Rattle.std.specs.Option.{option_map}
 use Rattle.host_name.specs.Addresses.{Address}
 use Rattle.hello_reply.specs.declared.server_description.ServerDescription.{ServerDescription}
 use Rattle.topo_rules.specs.Maps.{ServerMap}
 use Rattle.topo_rules.specs.Readings.{misfit_of}
-use Rattle.topo_rules.specs.declared.topology.Topology.{Topology}
-use Rattle.server_pick.specs.Candidates.{candidates}
 use Rattle.server_pick.specs.Picks.{mean_of}
 use Rattle.server_pick.specs.declared.candidate.Candidate.{Candidate}
-use Rattle.server_pick.specs.declared.criteria.Criteria.{Criteria}
 use Rattle.server_pick.specs.declared.picked.Picked.{Picked}
 use Rattle.server_pick.specs.declared.picked.Picked.TheVariants.{Incompatible}
 use Rattle.server_pick.specs.declared.preparing.Room.{Room}

@@ -1,4 +1,4 @@
-use Rattle.std.proofs.Common.{◌≤◌, sym, ap, ◌∙◌, arith, filter, length, map, rules, take_all}
+use Rattle.std.proofs.Common.{◌≤◌, ap, ◌∙◌, arith, filter, length, map, rules, take_all}
 use Rattle.std.proofs.lemmas.List.{length-map}
 use Rattle.std.specs.FinMap as table
 use Rattle.host_name.specs.Addresses.{Address}

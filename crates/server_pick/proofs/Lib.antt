@@ -1,0 +1,7 @@
+pub mod Lists
+pub mod SieveLemmas
+pub mod MapLemmas
+pub mod AskLemmas
+pub mod ChoiceLemmas
+pub mod PickLemmas
+pub mod LawLemmas

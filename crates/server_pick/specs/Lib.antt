@@ -1,0 +1,12 @@
+pub mod Asked
+pub mod Candidates
+pub mod Concluded
+pub mod Gathered
+pub mod Laws
+pub mod Objects
+pub mod Picks
+pub mod Prepared
+pub mod Runs
+pub mod Sieves
+pub mod Tags
+pub mod Windows

@@ -3,7 +3,9 @@ pub mod TicketLemmas
 pub mod AnswerLemmas
 pub mod QuietLemmas
 pub mod TimesLemmas
+pub mod RowLemmas
 pub mod SoundLemmas
+pub mod KeptLemmas
 pub mod ReadingLemmas
 pub mod LentLemmas
 pub mod SpentLemmas

@@ -75,7 +75,7 @@ add-cond_none n a k none other =
       | inr differ ↦ rw differ.0 (omega arith)
     ]
 
-Sound-entered : (p : Pool) (moment : ℕ) → Sound p → Sound (after p moment (Entered p.entered))
+pub Sound-entered : (p : Pool) (moment : ℕ) → Sound p → Sound (after p moment (Entered p.entered))
 Sound-entered p moment s =
     let more : (k : ℕ) → times_in (after p moment (Entered p.entered)) k ≡ times_in p k + cond (eqb p.entered k) 1 0 = λ k.
     let pushed : times_waiting k (p.waiting ++ ticket_for p moment ∷ []) ≡ times_waiting k p.waiting + cond (eqb p.entered k) 1 0 = times-push (λ (t : Ticket). eqb t.number k) p.waiting (ticket_for p moment) in
@@ -90,7 +90,7 @@ Sound-entered p moment s =
     }
 
 -- a ticket that leaves the line for nothing
-Sound-left : (p : Pool) (number : ℕ) → Sound p → Sound (record p { waiting = without_ticket number p.waiting })
+pub Sound-left : (p : Pool) (number : ℕ) → Sound p → Sound (record p { waiting = without_ticket number p.waiting })
 Sound-left p number s =
     let fewer : (k : ℕ) → times_waiting k (without_ticket number p.waiting) ≤ times_waiting k p.waiting = λ k. times-filter_most _ _ p.waiting in
     record {
@@ -103,7 +103,7 @@ Sound-left p number s =
     }
 
 -- pending connections that are gone
-Sound-gone : (p : Pool) (conn : ℕ) → Sound p → Sound (record p { pending = without_held conn p.pending })
+pub Sound-gone : (p : Pool) (conn : ℕ) → Sound p → Sound (record p { pending = without_held conn p.pending })
 Sound-gone p conn s =
     let fewer : (k : ℕ) → times_held k (without_held conn p.pending) ≤ times_held k p.pending = λ k. times-filter_most _ _ p.pending in
     let fewer' : (k : ℕ) → times_holding k (without_held conn p.pending) ≤ times_holding k p.pending = λ k. times-filter_most _ _ p.pending in
@@ -117,7 +117,7 @@ Sound-gone p conn s =
     }
 
 -- available connections that are gone
-Sound-swept : (p : Pool) (conn : ℕ) → Sound p → Sound (record p { available = without_available conn p.available })
+pub Sound-swept : (p : Pool) (conn : ℕ) → Sound p → Sound (record p { available = without_available conn p.available })
 Sound-swept p conn s =
     let fewer : (k : ℕ) → times_available k (without_available conn p.available) ≤ times_available k p.available = λ k. times-filter_most _ _ p.available in
     record {
@@ -129,7 +129,7 @@ Sound-swept p conn s =
       current = s.current;
     }
 
-Sound-lent : (p : Pool) (moment number conn : ℕ) (t : Ticket) (a : Available) → Sound p → ticket_of number p.waiting ≡ Some t →
+pub Sound-lent : (p : Pool) (moment number conn : ℕ) (t : Ticket) (a : Available) → Sound p → ticket_of number p.waiting ≡ Some t →
     last_of p.available ≡ Some a → is_closed p.state ≡ false → Sound (after p moment (Lent number conn))
 Sound-lent p moment number conn t a s h last open' =
     let q = after p moment (Lent number conn) in
@@ -145,7 +145,7 @@ Sound-lent p moment number conn t a s h last open' =
       current = All-filter _ (λ (t : Ticket). t.generation ≤ p.generation) p.waiting s.current;
     }
 
-Sound-dialled : (p : Pool) (moment number : ℕ) (t : Ticket) → Sound p → ticket_of number p.waiting ≡ Some t →
+pub Sound-dialled : (p : Pool) (moment number : ℕ) (t : Ticket) → Sound p → ticket_of number p.waiting ≡ Some t →
     Sound (after p moment (Dialled number (p.dialled + 1)))
 Sound-dialled p moment number t s h =
     let q = after p moment (Dialled number (p.dialled + 1)) in
@@ -166,7 +166,7 @@ Sound-dialled p moment number t s h =
       current = All-filter _ (λ (t : Ticket). t.generation ≤ p.generation) p.waiting s.current;
     }
 
-Sound-settled : (p : Pool) (moment number conn : ℕ) (h : Held) → Sound p → held_of conn p.pending ≡ Some h →
+pub Sound-settled : (p : Pool) (moment number conn : ℕ) (h : Held) → Sound p → held_of conn p.pending ≡ Some h →
     Sound (after p moment (Settled number conn false))
 Sound-settled p moment number conn h s e =
     let q = after p moment (Settled number conn false) in
@@ -203,7 +203,7 @@ returned-closed p moment errored None c = refl
 returned-closed p moment true (Some h) c = refl
 returned-closed p moment false (Some h) c = rw c refl
 
-Sound-checked_in : (p : Pool) (moment number conn : ℕ) (errored : Bool) (h : Held) → Sound p → held_of conn p.lent ≡ Some h →
+pub Sound-checked_in : (p : Pool) (moment number conn : ℕ) (errored : Bool) (h : Held) → Sound p → held_of conn p.lent ≡ Some h →
     Sound (after p moment (CheckedIn number conn errored))
 Sound-checked_in p moment number conn errored h s e =
     let alone : times_held conn p.lent ≤ 1 = omega (arith, s.once conn) in
@@ -218,7 +218,7 @@ Sound-checked_in p moment number conn errored h s e =
       current = s.current;
     }
 
-Sound-ready : (p : Pool) → Sound p → Sound (record p { state = state_of.Ready })
+pub Sound-ready : (p : Pool) → Sound p → Sound (record p { state = state_of.Ready })
 Sound-ready p s = record {
   once = s.once;
   dialled = s.dialled;
@@ -228,7 +228,7 @@ Sound-ready p s = record {
   current = s.current;
 }
 
-Sound-clear : (p : Pool) (moment : ℕ) → Sound p → Sound (after p moment Clear)
+pub Sound-clear : (p : Pool) (moment : ℕ) → Sound p → Sound (after p moment Clear)
 Sound-clear p moment s = record {
   once = s.once;
   dialled = s.dialled;
@@ -238,7 +238,7 @@ Sound-clear p moment s = record {
   current = All-weaker (λ (t : Ticket). t.generation ≤ p.generation) (λ (t : Ticket). t.generation ≤ p.generation + 1) (λ t l. omega arith) p.waiting s.current;
 }
 
-Sound-shut : (p : Pool) (moment : ℕ) → Sound p → Sound (after p moment Shut)
+pub Sound-shut : (p : Pool) (moment : ℕ) → Sound p → Sound (after p moment Shut)
 Sound-shut p moment s = record {
   once = λ k. omega (arith, s.once k);
   dialled = λ k l. omega (arith, s.dialled k l);

@@ -1,6 +1,7 @@
 -- What a book keeps, and what it shows of it.
 use Rattle.std.specs.Prelude.{ℕ, ◌+◌, ◌^◌, ◌<◌, ◌≤◌, length}
 use Rattle.pool_book.specs.Pool.{Pool}
+use Rattle.pool_book.specs.Sound.{Sound}
 use Rattle.pool_book.specs.declared.book.PoolBook.TheInside.{Inside}
 
 -- The pool that a book stands for (own: the refinement).
@@ -29,3 +30,8 @@ pub record HasRoom (b : Inside) : Type 0 where
   pub available : places_of b ≤ b.available.room
   pub numbers : b.dialled + length b.line.items ≤ b.line.given
   pub counted : b.line.given < 2 ^ 64
+
+-- What a book keeps: that room, and that each connection and each ticket stands once (own: the invariant).
+pub record IsKept (b : Inside) : Type 0 where
+  pub room : HasRoom b
+  pub sound : Sound (pool_of b)

@@ -1,5 +1,5 @@
 -- What the parts of a book show.
-use Rattle.std.specs.Prelude.{◌≡◌, ℕ, ◌≤◌, Option, Some, None, List, [], ◌∷◌, All, slice_get}
+use Rattle.std.specs.Prelude.{◌≡◌, ℕ, ◌≤◌, ◌==◌, Bool, false, Option, Some, None, List, [], ◌∷◌, All, slice_get, unwrap_or}
 use Rattle.wait_line.specs.Rising.{Rises}
 use Rattle.pool_book.specs.declared.ticket.Ticket.{Ticket}
 use Rattle.pool_book.specs.declared.connections.Held.{Held}
@@ -17,9 +17,18 @@ live [] = []
 live (None ∷ rows) = live rows
 live (Some h ∷ rows) = h ∷ live rows
 
+-- The connection stands in the row (own).
+abbrev pub is_row_of : ℕ → Option Held → Bool
+is_row_of conn None = false
+is_row_of conn (Some h) = h.conn == conn
+
+-- What stands in the row at a place, none past the last row (own).
+abbrev pub row_at : List (Option Held) → ℕ → Option Held
+row_at rows place = unwrap_or (slice_get rows place) None
+
 -- A connection stands in the row at a place (own).
 abbrev pub IsRowOf : ℕ → List (Option Held) → ℕ → Type 0
-IsRowOf conn rows place = (h : Held) × (slice_get rows place ≡ Some (Some h)) × (h.conn ≡ conn)
+IsRowOf conn rows place = (h : Held) × (row_at rows place ≡ Some h) × (h.conn ≡ conn)
 
 -- The tickets that wait, in order, and how many were given (own).
 pub record Tickets : Type 0 where

@@ -5,6 +5,7 @@ ghost use Rattle.pool_book.specs.Judge.{Goes};
 
 use crate::available_list::AvailableList;
 use crate::held_list::HeldList;
+use crate::last_rows::LastRows;
 use crate::ticket_line::TicketLine;
 use crate::{Available, PoolRules, PoolState, Ticket};
 use std::alloc::Global;
@@ -49,6 +50,7 @@ pub struct PoolBook {
     lent: HeldList,
     available: AvailableList,
     dialled: u64,
+    last_rows: LastRows,
 }
 
 impl Model for PoolBook {
@@ -56,11 +58,11 @@ impl Model for PoolBook {
 
     ghost Value = { Pool };
 
-    ghost use Rattle.pool_book.specs.Inside.{pool_of, HasRoom};
+    ghost use Rattle.pool_book.specs.Inside.{pool_of, IsKept};
 
     ghost view = { pool_of };
 
-    ghost invariant = { HasRoom };
+    ghost invariant = { IsKept };
 }
 
 impl PoolBook {
@@ -79,6 +81,7 @@ impl PoolBook {
             lent: HeldList::new(alloc),
             available: AvailableList::new(alloc),
             dialled: 0,
+            last_rows: LastRows::new(alloc),
         }
     }
 
@@ -120,14 +123,16 @@ impl PoolBook {
     pub fn is_pending(&self, conn: u64) -> bool
         ensures { result ≡ is_some (held_of conn self.now.pending) }
     {
-        self.pending.find(conn).is_some()
+        self.pending
+            .find(conn, self.last_rows.row_of(conn))
+            .is_some()
     }
 
     /// Whether the connection is lent.
     pub fn is_lent(&self, conn: u64) -> bool
         ensures { result ≡ is_some (held_of conn self.now.lent) }
     {
-        self.lent.find(conn).is_some()
+        self.lent.find(conn, self.last_rows.row_of(conn)).is_some()
     }
 
     /// Makes a paused pool ready (CMAP, Marking a Connection Pool as Ready). Another pool stays as it is.

@@ -22,6 +22,7 @@ mod available_list;
 mod book;
 mod connections;
 mod held_list;
+mod last_rows;
 pub mod laws;
 mod rules;
 mod state;

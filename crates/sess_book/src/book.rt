@@ -124,7 +124,8 @@ impl SessBook {
 
     /// Whether a lease is one of this book's that is not given back, and whether it has drawn; `Nobody` where it is none.
     pub fn holding(&self, lease: &Lease) -> Holding
-        ensures { result ≢ Holding.Nobody → IsHeld self.now lease.now result }
+        ensures held { result ≢ Holding.Nobody → IsHeld self.now lease.now result }
+        ensures exact { (holding : Holding) → IsHeld self.now lease.now holding → result ≡ holding }
     {
         match self.made.get(lease.place) {
             Some(session) if session.lsid == lease.lsid => session.holding,

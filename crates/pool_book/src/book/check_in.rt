@@ -16,15 +16,16 @@ impl PoolBook {
         ensures goes { (h : Held) → held_of conn self.old.pending ≡ Some h → (moment : ℕ)
             → Goes self.old moment (entry.Settled h.ticket conn (is_worthless self.old.state self.old.generation h.generation)) self.new }
     {
-        let Some(held) = self.pending.take_out(conn) else {
+        let Some(held) = self.pending.take_out(conn, self.last_rows.row_of(conn)) else {
             unreachable!();
         };
         if is_worthless(self.state, self.generation, held.generation) {
+            self.last_rows.forget(conn);
             return Settled::Stale {
                 generation: self.generation,
             };
         }
-        self.lent.put(held);
+        self.lent.put(held, &mut self.last_rows);
         Settled::Lent
     }
 
@@ -34,7 +35,8 @@ impl PoolBook {
         ensures { (h : Held) → held_of conn self.old.pending ≡ Some h → (moment : ℕ)
             → Goes self.old moment (entry.NotLent h.ticket (entry.Lost conn)) self.new }
     {
-        self.pending.take_out(conn);
+        self.pending.take_out(conn, self.last_rows.row_of(conn));
+        self.last_rows.forget(conn);
     }
 
     /// A lent connection comes back (CMAP, Checking In a Connection): it is available again, unless it failed, the pool
@@ -45,10 +47,11 @@ impl PoolBook {
         ensures goes { (h : Held) → held_of conn self.old.lent ≡ Some h
             → Goes self.old moment (entry.CheckedIn h.ticket conn errored) self.new }
     {
-        let Some(held) = self.lent.take_out(conn) else {
+        let Some(held) = self.lent.take_out(conn, self.last_rows.row_of(conn)) else {
             unreachable!();
         };
         if errored || is_worthless(self.state, self.generation, held.generation) {
+            self.last_rows.forget(conn);
             return Fate::Shut(shut_reason(self.state, errored));
         }
         self.available.put(Available {

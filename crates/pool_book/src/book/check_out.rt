@@ -27,7 +27,9 @@ impl PoolBook {
         self.pending.reserve_for(places)?;
         self.lent.reserve_for(places)?;
         self.available.reserve_for(places)?;
-        self.line.enter(self.generation, moment)
+        self.last_rows.reserve_for(places)?;
+        let ticket = self.line.enter(self.generation, moment)?;
+        Ok(ticket)
     }
 
     /// The ticket waits no more. A ticket that is not in the line leaves the pool as it is.
@@ -51,6 +53,7 @@ impl PoolBook {
             .available
             .first_perished(self.rules, self.generation, moment)?;
         self.available.remove(perished.conn);
+        self.last_rows.forget(perished.conn);
         Some(Swept {
             conn: perished.conn,
             reason: perish_reason(self.generation, perished.generation),
@@ -143,11 +146,12 @@ impl PoolBook {
             unreachable!();
         };
         self.line.leave(number);
-        self.lent.put(Held {
+        let held = Held {
             conn: last.conn,
             ticket: number,
             generation: last.generation,
-        });
+        };
+        self.lent.put(held, &mut self.last_rows);
     }
 
     /// Gives the next connection to a ticket of the line to dial.
@@ -157,11 +161,12 @@ impl PoolBook {
         ensures { (moment : ℕ) → self.new ≡ after self.old moment (entry.Dialled number conn) }
     {
         self.line.leave(number);
-        self.pending.put(Held {
+        let held = Held {
             conn,
             ticket: number,
             generation: self.generation,
-        });
+        };
+        self.pending.put(held, &mut self.last_rows);
         self.dialled = conn;
     }
 }

@@ -8,6 +8,7 @@ use Rattle.pool_book.specs.Parts.{RoomyAvailable}
 use Rattle.pool_book.specs.Pool.{Pool, is_perished, is_swept}
 use Rattle.pool_book.specs.Inside.{pool_of}
 use Rattle.pool_book.proofs.ListLemmas.{IfNone-from, find-by, find-passes, length-filter_fewer, list_any-not_found}
+use Rattle.pool_book.proofs.SoundLemmas.{Sound-swept}
 use Rattle.pool_book.proofs.book.PoolBook.sweep.Goals as goal
 
 pub invariant_of-self-2 : goal.invariant_of-self-2
@@ -16,11 +17,14 @@ invariant_of-self-2 c =
     let fewer : length c.remove.new.self.items ≤ length c.self.inside.available.items = rw (← same) c.remove.ensures.bound in
     let room : c.remove.new.self.room ≡ c.self.inside.available.room = c.remove.ensures.room ∙ ap (λ (l : RoomyAvailable). l.room) same in
     record {
-      pending = omega (arith, c.self.invariant.pending, fewer);
-      lent = omega (arith, c.self.invariant.lent, fewer);
-      available = omega (arith, c.self.invariant.available, fewer, room);
-      numbers = c.self.invariant.numbers;
-      counted = c.self.invariant.counted;
+      room = record {
+        pending = omega (arith, c.self.invariant.room.pending, fewer);
+        lent = omega (arith, c.self.invariant.room.lent, fewer);
+        available = omega (arith, c.self.invariant.room.available, fewer, room);
+        numbers = c.self.invariant.room.numbers;
+        counted = c.self.invariant.room.counted;
+      };
+      sound = rw (c.remove.ensures.items, c.first_perished.ensures.same) (Sound-swept (pool_of c.self.inside) c.in_ok-perished.perished.conn c.self.invariant.sound);
     }
 
 pub returns-in_err-perished-clause-none : goal.returns-in_err-perished-clause-none

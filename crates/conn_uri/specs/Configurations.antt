@@ -1,9 +1,10 @@
 -- What a client was told to do (Connection String; URI Options).
-use Rattle.std.specs.Prelude.{◌≡◌, ◌≤◌, ℕ, Bool, true, false, List, [], Option, length}
+use Rattle.std.specs.Prelude.{◌≡◌, ◌≤◌, ℕ, Bool, true, false, List, [], Option, None, length}
 use Rattle.std.specs.List.{IsDistinct}
 use Rattle.host_name.specs.Addresses.{Address, is_same_address}
 use Rattle.read_pref.specs.Preferences.{Preference}
 use Rattle.read_pref.specs.declared.mode.Mode.TheVariants as mode
+use Rattle.conn_uri.specs.declared.chosen.Chosen.{Chosen}
 
 -- The seeds, the database and the options. Times are in milliseconds.
 pub record Configuration : Type 0 where
@@ -52,28 +53,40 @@ pub record IsConfiguration (c : Configuration) : Type 0 where
   pub pool : 1 ≤ c.max_pool
   pub connecting : 1 ≤ c.max_connecting
 
--- The mode primary without tags (Server Selection, Read Preference: the default).
-abbrev pub primary : Preference
-primary = record { mode = mode.Primary; tag_sets = [] }
-
--- The configuration of these seeds, this set's name and this database, each option at its default (URI Options; own: the
--- defaults of socketTimeoutMS and waitQueueTimeoutMS).
-abbrev pub plain_configuration : List Address → Option (List ℕ) → List ℕ → Configuration
-plain_configuration hosts set_name db = record {
-  hosts = hosts;
-  set_name = set_name;
-  direct = false;  -- directConnection
-  db = db;
-  read = primary;  -- readPreference, readPreferenceTags
-  retry_writes = true;  -- retryWrites
-  connect_ms = 10000;  -- connectTimeoutMS
-  socket_ms = 30000;  -- socketTimeoutMS
-  select_ms = 30000;  -- serverSelectionTimeoutMS
-  beat_ms = 10000;  -- heartbeatFrequencyMS
-  threshold_ms = 15;  -- localThresholdMS
-  wait_ms = 30000;  -- waitQueueTimeoutMS
-  idle_ms = 0;  -- maxIdleTimeMS
-  max_pool = 100;  -- maxPoolSize
-  max_connecting = 2;  -- maxConnecting
+-- What the options choose: their values, the names that are told, and the names of options that ask for what is left out.
+-- Each is at its default here (URI Options; own: the defaults of socketTimeoutMS and waitQueueTimeoutMS).
+abbrev pub defaults : Chosen
+defaults = record {
+  set_name = None; -- replicaSet
+  direct = false; -- directConnection
+  retry_writes = true; -- retryWrites
+  connect_ms = 10000; -- connectTimeoutMS
+  socket_ms = 30000; -- socketTimeoutMS
+  select_ms = 30000; -- serverSelectionTimeoutMS
+  beat_ms = 10000; -- heartbeatFrequencyMS
+  threshold_ms = 15; -- localThresholdMS
+  wait_ms = 30000; -- waitQueueTimeoutMS
+  idle_ms = 0; -- maxIdleTimeMS
+  max_pool = 100; -- maxPoolSize
+  max_connecting = 2; -- maxConnecting
+  mode = mode.Primary; -- readPreference
+  tag_sets = []; -- readPreferenceTags
   warnings = [];
+  left = [];
 }
+
+-- The read preference that was chosen.
+abbrev pub preference_of : Chosen → Preference
+preference_of c = record { mode = c.mode; tag_sets = c.tag_sets }
+
+-- The configuration of these seeds and this database, with what was chosen.
+abbrev pub configured : List Address → List ℕ → Chosen → Configuration
+configured hosts db c = record {
+  hosts = hosts; set_name = c.set_name; direct = c.direct; db = db; read = preference_of c; retry_writes = c.retry_writes;
+  connect_ms = c.connect_ms; socket_ms = c.socket_ms; select_ms = c.select_ms; beat_ms = c.beat_ms;
+  threshold_ms = c.threshold_ms; wait_ms = c.wait_ms; idle_ms = c.idle_ms; max_pool = c.max_pool;
+  max_connecting = c.max_connecting; warnings = c.warnings }
+
+-- The configuration of these seeds, this set's name and this database, each option at its default.
+abbrev pub plain_configuration : List Address → Option (List ℕ) → List ℕ → Configuration
+plain_configuration hosts set_name db = configured hosts db (record defaults { set_name = set_name })

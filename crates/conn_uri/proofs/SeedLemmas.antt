@@ -10,7 +10,8 @@ use Rattle.std.proofs.lemmas.List.Folds.{list_any-append}
 use Rattle.std.proofs.lemmas.Map.Keys.{IsDistinct-push}
 use Rattle.host_name.specs.Addresses.{Address, address_cmp, is_same_address}
 use Rattle.host_name.proofs.HostOrder.{host_ties, same_equivalence}
-use Rattle.conn_uri.specs.Seeds.{HasSeen, kept_once, with_host}
+use Rattle.conn_uri.specs.Inside.{HasSeen}
+use Rattle.conn_uri.specs.Seeds.{kept_once, with_host}
 
 -- the hosts that a loop has kept so far are these, and the set has them
 pub record IsKept (seen : BTreeSet (Bor Address)) (kept wanted : List Address) : Type 0 where

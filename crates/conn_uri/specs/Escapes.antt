@@ -39,7 +39,7 @@ source k text = length text - length (behind_number k text)
 
 -- Where the first bytes stand that are no UTF-8 after decoding.
 abbrev pub broken_escape : List ℕ → Option ℕ
-broken_escape text = let bytes = percent_decode text in if is_utf8 bytes then None else Some (source (utf8_valid_len bytes) text)
+broken_escape text = if is_utf8 (percent_decode text) then None else Some (source (utf8_valid_len (percent_decode text)) text)
 
 -- The earlier of two places, where there are any.
 abbrev pub earlier : Option ℕ → Option ℕ → Option ℕ

@@ -1,5 +1,6 @@
 -- The parts of a connection string: mongodb://hosts[/[database]][?options] (Connection String, General Syntax).
-use Rattle.std.specs.Prelude.{ℕ, ◌+◌, ◌-◌, ◌==◌, Bool, nat_eq, if◌then◌else◌, List, [], ◌∷◌, Option, None, Some, length, drop, starts_with, codes}
+use Rattle.std.specs.Prelude.{ℕ, ◌+◌, ◌-◌, ◌==◌, Bool, nat_eq, if◌then◌else◌, List, [], ◌∷◌, Option, None, Some, length, drop, codes}
+use Rattle.std.specs.List.{starts_with}
 use Rattle.host_name.specs.Grammar.{is_in, before, behind}
 
 -- Text of the string, and the place of its first byte, from 0.

@@ -3,8 +3,8 @@ pub mod Configurations
 pub mod Each
 pub mod Escapes
 pub mod Grammar
+pub mod Inside
 pub mod Options
-pub mod Pieces
 pub mod Reading
 pub mod Seeds
 pub mod Values

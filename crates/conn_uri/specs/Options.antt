@@ -61,6 +61,14 @@ options =
     ∷ option.MaxIdleTimeMs ∷ option.MaxPoolSize ∷ option.MaxConnecting ∷ option.ReadPreference ∷ option.ReadPreferenceTags
     ∷ option.Tls ∷ option.Ssl ∷ option.LoadBalanced ∷ option.Compressors ∷ option.AuthMechanism ∷ option.W ∷ option.Journal ∷ []
 
+-- The option's name.
+unfoldable pub name_of : UriOption → List ℕ
+name_of o = (table o).name
+
+-- What a value of the option makes of what was chosen.
+unfoldable pub taken : UriOption → List ℕ → Chosen → Option Chosen
+taken o = (table o).takes
+
 -- The option of a name in lower case, none where no option has it.
 abbrev pub option_named : List ℕ → Option UriOption
-option_named name = find (λ o. is_text (table o).name name) options
+option_named name = find (λ o. is_text (name_of o) name) options

@@ -1,10 +1,8 @@
 -- The hosts of a connection string (Connection String, Host Information).
-use denote.Ref.{Bor}
-use Rattle.std.specs.Prelude.{◌≡◌, ◌<◌, ℕ, Bool, not, if◌then◌else◌, List, [], ◌∷◌, ◌++◌, Result, Ok, Err, filter, fold}
-use Rattle.std.specs.BTreeSet.{BTreeSet, contains}
+use Rattle.std.specs.Prelude.{ℕ, Bool, not, if◌then◌else◌, List, [], ◌∷◌, ◌++◌, Result, Ok, Err, filter, fold}
 use Rattle.std.specs.List.{list_any}
 use Rattle.bson_doc.specs.Steps.{◌>>=◌}
-use Rattle.host_name.specs.Addresses.{Address, is_same_address, address_cmp}
+use Rattle.host_name.specs.Addresses.{Address, is_same_address}
 use Rattle.host_name.specs.Grammar.{is_in}
 use Rattle.host_name.specs.Reading.{reading}
 use Rattle.host_name.specs.declared.fault.HostFault.{HostFault}
@@ -36,7 +34,3 @@ kept_once hosts = fold with_host [] hosts
 -- The hosts that are no sockets' paths, each once, or the first fault among them.
 abbrev pub seeds_in : List (List ℕ) → Result (List Address) UriFault
 seeds_in texts = read_each host_in (filter (λ t. not (is_path t)) texts) >>= (λ hosts. Ok (kept_once hosts))
-
--- The set has exactly those hosts that were kept (own).
-pub record HasSeen (seen : BTreeSet (Bor Address)) (kept : List Address) : Type 0 where
-  pub same : (q : Bor Address) → contains (λ x y. address_cmp x.now y.now) seen q ≡ list_any (is_same_address q.now) kept

@@ -1,10 +1,10 @@
 //! What the pieces of the options choose, one after another.
-ghost use Rattle.std.specs.Prelude.{◌≡◌, ◌≤◌, ◌++◌, ◌∷◌, [], IfOk, OnOk, filter, fold, is_some, length, not, unwrap_or, if◌then◌else◌};
+ghost use Rattle.std.specs.Prelude.{◌≡◌, ◌≤◌, ◌++◌, ◌∷◌, [], IfOk, OnOk, filter, fold, Some, is_some, length, not, unwrap_or, if◌then◌else◌};
 ghost use Rattle.std.specs.Option.{ForSome, option_map_or, option_or};
 ghost use Rattle.bson_doc.specs.Documents.{is_text};
 ghost use Rattle.conn_uri.specs.Choices.{chosen_of, took};
 ghost use Rattle.conn_uri.specs.Configurations.{defaults as default_choices, MOST};
-ghost use Rattle.conn_uri.specs.Options.{asking, table};
+ghost use Rattle.conn_uri.specs.Options.{asking, taken};
 ghost use Rattle.conn_uri.specs.Values.{some_text, truth as truth_of};
 
 use crate::chosen::Chosen;
@@ -18,14 +18,12 @@ use read_pref::Mode;
 use std::alloc::Global;
 
 /// What the pieces choose; each option that none names is at its default.
-pub(crate) fn choose(alloc: Global, pieces: Rows<Option<Said>>) -> Result<Chosen, Memory>
-    ensures chosen { IfOk result (λ c. c ≡ chosen_of pieces) }
+pub(crate) fn choose(alloc: Global, pieces: &[Option<Said>]) -> Result<Chosen, Memory>
+    ensures { IfOk result (λ c. c ≡ chosen_of pieces.now) }
 {
     let mut chosen = defaults_chosen(alloc);
-    for piece in pieces.into_vec() {
-        if let Some(said) = piece {
-            take(alloc, &mut chosen, said)?;
-        }
+    for piece in pieces {
+        take(alloc, &mut chosen, piece)?;
     }
     Ok(chosen)
 }
@@ -54,25 +52,35 @@ fn defaults_chosen(alloc: Global) -> Chosen
     }
 }
 
-/// Takes one piece, or tells its name where no option has that or the value does not read.
-fn take(alloc: Global, chosen: &mut Chosen, said: Said) -> Result<(), Memory>
-    ensures { OnOk result (chosen.new ≡ took chosen.old (Some said)) }
+/// Takes one piece; an empty one says nothing.
+fn take(alloc: Global, chosen: &mut Chosen, piece: &Option<Said>) -> Result<(), Memory>
+    ensures { OnOk result (chosen.new ≡ took chosen.old piece.now) }
 {
-    let Said { name, value } = said;
-    let is_read = match UriOption::from_name(name.as_str()) {
-        Some(option) => set(alloc, chosen, option, value.as_str())?,
+    match piece {
+        Some(said) => take_said(alloc, chosen, said),
+        None => Ok(()),
+    }
+}
+
+/// Takes what was said, or tells its name where no option has that or the value does not read.
+fn take_said(alloc: Global, chosen: &mut Chosen, said: &Said) -> Result<(), Memory>
+    ensures { OnOk result (chosen.new ≡ took chosen.old (Some said.now)) }
+{
+    let is_read = match UriOption::from_name(said.name.as_str()) {
+        Some(option) => set(alloc, chosen, option, said.value.as_str())?,
         None => false,
     };
-    if !is_read {
-        chosen.warnings.push(name)?;
+    if is_read {
+        return Ok(());
     }
-    Ok(())
+    chosen.warnings.push(said.name.copy(alloc)?)
 }
 
 /// Sets what the option's value says, and tells whether the value reads.
+#[tactic(auto, unfolding(crate::specs::Options::taken))]
 fn set(alloc: Global, chosen: &mut Chosen, option: UriOption, value: &str) -> Result<bool, Memory>
-    ensures { IfOk result (λ is_read. (is_read ≡ is_some ((table option).takes value.now chosen.old))
-        × (chosen.new ≡ unwrap_or ((table option).takes value.now chosen.old) chosen.old)) }
+    ensures { IfOk result (λ is_read. (is_read ≡ is_some (taken option value.now chosen.old))
+        × (chosen.new ≡ unwrap_or (taken option value.now chosen.old) chosen.old)) }
 {
     match option {
         UriOption::ReplicaSet => set_text(alloc, &mut chosen.set_name, value),
@@ -145,25 +153,36 @@ fn set_count(field: &mut u32, value: Option<u64>) -> bool
     }
 }
 
-/// An option asks for what is left out, or does not, where its value reads: the last value counts.
+/// An option asks for what is left out, or does not, where its value reads.
 fn ask(
     alloc: Global,
     left: &mut Rows<Text>,
     name: &str,
     asks: Option<bool>,
 ) -> Result<bool, Memory>
-    ensures { IfOk result (λ is_read. (is_read ≡ is_some asks)
-        × (left.new ≡ option_map_or (λ b. asking name.now b left.old) asks left.old)) }
+    ensures read { IfOk result (λ is_read. is_read ≡ is_some asks) }
+    ensures left { OnOk result (left.new ≡ option_map_or (λ b. asking name.now b left.old) asks left.old) }
 {
-    let Some(asks) = asks else {
-        return Ok(false);
-    };
-    let mut others = others(alloc, left.as_slice(), name)?;
-    if asks {
-        others.push(Text::take(alloc, name)?)?;
+    match asks {
+        Some(asks) => {
+            let others = others(alloc, left.as_slice(), name)?;
+            *left = with_name(alloc, others, name, asks)?;
+            Ok(true)
+        }
+        None => Ok(false),
     }
-    *left = others;
-    Ok(true)
+}
+
+/// The names, and this one behind them where it asks.
+fn with_name(alloc: Global, names: Rows<Text>, name: &str, asks: bool) -> Result<Rows<Text>, Memory>
+    ensures { IfOk result (λ all. all ≡ names ++ (if asks then name.now ∷ [] else [])) }
+{
+    if !asks {
+        return Ok(names);
+    }
+    let mut all = names;
+    all.push(Text::take(alloc, name)?)?;
+    Ok(all)
 }
 
 /// The names that are not this one.

@@ -2,7 +2,7 @@
 ghost use Rattle.std.specs.Prelude.{◌≡◌, ◌+◌, ◌<◌, ◌≤◌, ◌↔◌, IfOk, IfSome, IsTrue, is_some, length, map};
 ghost use Rattle.host_name.specs.Grammar.{is_in, before, behind};
 ghost use Rattle.conn_uri.specs.Grammar.{behind_part, before_part, pieces as pieces_between};
-ghost use Rattle.conn_uri.specs.Pieces.{part_of};
+ghost use Rattle.conn_uri.specs.Inside.{part_of};
 
 use crate::Memory;
 use crate::piece::Piece;
@@ -11,8 +11,8 @@ use std::alloc::Global;
 /// What stands before the first such character, all where there is none, and what stands behind it.
 pub(crate) fn halves<'a>(whole: Piece<'a>, mark: char) -> (Piece<'a>, Piece<'a>)
     requires { mark < 128 }
-    ensures front { part_of result.0 ≡ before_part mark (part_of whole) }
-    ensures back { part_of result.1 ≡ behind_part mark (part_of whole) }
+    ensures front { part_of result.0 ≡ before_part mark (part_of whole.entry) }
+    ensures back { part_of result.1 ≡ behind_part mark (part_of whole.entry) }
 {
     let (front, back) = split_at_first(whole.text, mark);
     let at = whole.at + (whole.text.len() - back.len());
@@ -32,7 +32,7 @@ pub(crate) fn pieces<'a>(
     mark: char,
 ) -> Result<Vec<Piece<'a>>, Memory>
     requires { mark < 128 }
-    ensures { IfOk result (λ ps. map part_of ps.items ≡ pieces_between mark (part_of whole)) }
+    ensures { IfOk result (λ ps. map part_of ps.items ≡ pieces_between mark (part_of whole.entry)) }
 {
     let mut pieces = Vec::new(alloc);
     let mut rest = whole;

@@ -1,8 +1,10 @@
 //! Escapes of a connection string (Connection String, Key Value Pairs).
-ghost use Rattle.std.specs.Prelude.{◌≡◌, ◌≢◌, ◌≤◌, ◌+◌, Err, IfSome, Some, length};
+ghost use Rattle.std.specs.Prelude.{◌≡◌, ◌≢◌, ◌≤◌, ◌+◌, Err, IfSome, IsUtf8, None, Some, if◌then◌else◌, length};
 ghost use Rattle.conn_uri.specs.Escapes.{begins_hex as begins_two_digits, behind_first, capped, cut_from, decoded, earlier as earlier_of, source};
 ghost use Rattle.std.specs.Char.{is_digit};
-ghost use Rattle.conn_uri.specs.Pieces.{part_of};
+ghost use Rattle.std.specs.Str.{is_utf8};
+ghost use Rattle.std.specs.Str.Lossy.{utf8_valid_len};
+ghost use Rattle.conn_uri.specs.Inside.{part_of};
 ghost use Rattle.conn_uri.specs.declared.fault.UriFault.{UriFault};
 
 use crate::UriFault;
@@ -10,42 +12,59 @@ use crate::piece::Piece;
 use bson_doc::Text;
 use percent_encoding::percent_decode_str;
 use std::alloc::Global;
+use std::str;
 
 /// The text of a piece without its escapes, or the first of them that is at fault.
 pub(crate) fn decode(alloc: Global, piece: Piece<'_>) -> Result<Text, UriFault>
-    ensures { result ≢ Err UriFault.Memory → result ≡ decoded (part_of piece) }
+    ensures { result ≢ Err UriFault.Memory → result ≡ decoded (part_of piece.entry) }
 {
     let mut bytes = Vec::new(alloc);
     percent_decode_str(piece.text).append_to(&mut bytes)?;
     let cut = first_cut(piece.text.as_bytes());
-    match String::from_utf8(bytes) {
-        Ok(text) => match cut {
-            None => Ok(Text::from_string(text)),
-            Some(place) => Err(fault_at(piece, place)),
-        },
-        Err(error) => {
-            let broken = source_of(error.utf8_error().valid_up_to(), piece.text.as_bytes());
-            Err(fault_at(piece, first_of(cut, broken)))
-        }
+    let broken = first_broken(bytes.as_slice(), piece.text.as_bytes());
+    match first_of(cut, broken) {
+        Some(place) => Err(fault_at(piece, place)),
+        None => Ok(text_of(bytes)),
     }
 }
 
 /// The escape at that place of the piece is at fault.
 fn fault_at(piece: Piece<'_>, place: usize) -> UriFault
-    requires { place ≤ length piece.text.now }
-    ensures { result ≡ UriFault.Escape (capped (piece.at + place)) }
+    ensures { result ≡ UriFault.Escape (capped (piece.entry.at + place)) }
 {
-    let at = (piece.at + place).min(u32::MAX as usize) as u32;
+    let at = piece.at.saturating_add(place).min(u32::MAX as usize) as u32;
     UriFault::Escape { at }
 }
 
-/// The earlier of two places.
-fn first_of(cut: Option<usize>, broken: usize) -> usize
-    ensures { earlier_of cut (Some broken) ≡ Some result }
+/// The text of bytes that are UTF-8.
+fn text_of(bytes: Vec<u8>) -> Text
+    requires { IsUtf8 bytes.items }
+    ensures { result ≡ bytes.items }
 {
-    match cut {
-        Some(place) => place.min(broken),
-        None => broken,
+    match String::from_utf8(bytes) {
+        Ok(text) => Text::from_string(text),
+        Err(_) => unreachable!(),
+    }
+}
+
+/// The earlier of two places, where there are any.
+fn first_of(cut: Option<usize>, broken: Option<usize>) -> Option<usize>
+    ensures { result ≡ earlier_of cut broken }
+{
+    match (cut, broken) {
+        (Some(cut), Some(broken)) => Some(cut.min(broken)),
+        (Some(cut), None) => Some(cut),
+        (None, broken) => broken,
+    }
+}
+
+/// Where the first bytes stand that are no UTF-8 after decoding.
+fn first_broken(bytes: &[u8], text: &[u8]) -> Option<usize>
+    ensures { result ≡ (if is_utf8 bytes.now then None else Some (source (utf8_valid_len bytes.now) text.now)) }
+{
+    match str::from_utf8(bytes) {
+        Ok(_) => None,
+        Err(error) => Some(source_of(error.valid_up_to(), text)),
     }
 }
 

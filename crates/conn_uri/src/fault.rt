@@ -1,3 +1,5 @@
+ghost use Rattle.std.specs.Prelude.{◌≡◌};
+
 use crate::Memory;
 use bson_doc::Text;
 use host_name::HostFault;

@@ -3,7 +3,8 @@ ghost use Rattle.std.specs.Prelude.{◌≡◌, ◌≢◌, List, [], ◌∷◌, �
 ghost use Rattle.std.specs.List.{list_any};
 ghost use Rattle.host_name.specs.Addresses.{Address, is_same_address};
 ghost use Rattle.conn_uri.specs.Each.{read_each};
-ghost use Rattle.conn_uri.specs.Seeds.{host_in, is_path as is_socket_path, kept_once, seeds_in, with_host, HasSeen};
+ghost use Rattle.conn_uri.specs.Seeds.{host_in, is_path as is_socket_path, kept_once, seeds_in, with_host};
+ghost use Rattle.conn_uri.specs.Inside.{HasSeen};
 ghost use Rattle.conn_uri.specs.declared.fault.UriFault.{UriFault};
 
 use crate::cutting::has;
@@ -17,8 +18,10 @@ use std::collections::BTreeSet;
 pub(crate) fn seeds(alloc: Global, texts: &[Text]) -> Result<Rows<Host>, UriFault>
     ensures { result ≢ Err UriFault.Memory → result ≡ seeds_in texts.now }
 {
-    let hosts = hosts(alloc, texts)?;
-    Ok(distinct(alloc, hosts.as_slice())?)
+    match hosts(alloc, texts) {
+        Ok(hosts) => Ok(distinct(alloc, hosts.as_slice())?),
+        Err(fault) => Err(fault),
+    }
 }
 
 /// Whether some text is the path of a socket.
@@ -41,8 +44,12 @@ fn hosts(alloc: Global, texts: &[Text]) -> Result<Rows<Host>, UriFault>
 {
     let mut hosts = Rows::new(alloc);
     for text in texts {
-        if !is_path(text.as_str()) {
-            hosts.push(host(alloc, text.as_str())?)?;
+        if is_path(text.as_str()) {
+            continue;
+        }
+        match host(alloc, text.as_str()) {
+            Ok(host) => hosts.push(host)?,
+            Err(fault) => return Err(fault),
         }
     }
     Ok(hosts)

@@ -1,5 +1,5 @@
 ghost use Rattle.std.specs.Prelude.{◌≡◌, IfOk};
-ghost use Rattle.conn_uri.specs.Configurations.{plain_configuration, primary as primary_preference, AreSeeds, IsConfiguration};
+ghost use Rattle.conn_uri.specs.Configurations.{defaults as default_choices, plain_configuration, preference_of, AreSeeds, IsConfiguration};
 
 use crate::copies::{copy_hosts, copy_text, copy_texts};
 use crate::{Memory, defaults};
@@ -145,7 +145,7 @@ impl Settings {
 
 /// The read preference of mode primary without tags.
 fn primary(alloc: Global) -> ReadPref
-    ensures { result ≡ primary_preference }
+    ensures { result ≡ preference_of default_choices }
 {
     match ReadPref::new(Mode::Primary, Rows::new(alloc)) {
         Ok(read) => read,

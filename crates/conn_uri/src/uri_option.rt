@@ -1,6 +1,6 @@
 ghost use Rattle.std.specs.Prelude.{◌≡◌, find};
 ghost use Rattle.bson_doc.specs.Documents.{is_text};
-ghost use Rattle.conn_uri.specs.Options.{table};
+ghost use Rattle.conn_uri.specs.Options.{name_of};
 
 /// The options of a connection string (URI Options).
 #[derive(Clone, Copy, Debug, PartialEq, Eq)]
@@ -54,11 +54,12 @@ const OPTIONS: [UriOption; 21] = [
 ];
 
 impl UriOption {
-    ghost use Rattle.conn_uri.specs.Options.{option_named, table};
+    ghost use Rattle.conn_uri.specs.Options.{name_of, option_named};
 
     /// The option's name in lower case.
+    #[tactic(auto, unfolding(crate::specs::Options::name_of))]
     pub(crate) fn name(self) -> &'static str
-        ensures { result.now ≡ (table self).name }
+        ensures { result.now ≡ name_of self }
     {
         match self {
             UriOption::ReplicaSet => "replicaset",
@@ -95,7 +96,7 @@ impl UriOption {
 
 /// The first of the options that has the name.
 fn named(name: &str, options: &[UriOption]) -> Option<UriOption>
-    ensures { result ≡ find (λ o. is_text (table o).name name.now) options.now }
+    ensures { result ≡ find (λ o. is_text (name_of o) name.now) options.now }
 {
     for option in options {
         if option.name() == name {

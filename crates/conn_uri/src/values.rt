@@ -4,7 +4,8 @@ ghost use Rattle.std.specs.List.{list_all};
 ghost use Rattle.std.specs.Char.{is_ascii_digit};
 ghost use Rattle.conn_uri.specs.Configurations.{MOST};
 ghost use Rattle.conn_uri.specs.Each.{each_or_none};
-ghost use Rattle.conn_uri.specs.Pieces.{part_of};
+ghost use Rattle.conn_uri.specs.Grammar.{pieces as pieces_between, Part};
+ghost use Rattle.conn_uri.specs.Inside.{part_of};
 ghost use Rattle.conn_uri.specs.Values.{is_whole, limit as limit_of, tag_in as tag_of, tags_in as tags_of, truth as truth_of, whole_from};
 
 use crate::Memory;
@@ -37,9 +38,13 @@ pub(crate) fn whole(value: &str, least: u64) -> Option<u64>
     if !is_digits(value) {
         return None;
     }
-    match value.parse::<u64>() {
-        Ok(number) if least <= number && number <= GREATEST => Some(number),
-        _ => None,
+    let Ok(number) = value.parse::<u64>() else {
+        return None;
+    };
+    if least <= number && number <= GREATEST {
+        Some(number)
+    } else {
+        None
     }
 }
 
@@ -76,8 +81,16 @@ pub(crate) fn tags(alloc: Global, value: &str) -> Result<Option<TagSet>, Memory>
     if value.is_empty() {
         return Ok(Some(Rows::new(alloc)));
     }
-    let whole = Piece { at: 0, text: value };
-    tags_among(alloc, pieces(alloc, whole, ',')?.as_slice())
+    tags_between(alloc, Piece { at: 0, text: value })
+}
+
+/// The tags between the commas.
+fn tags_between(alloc: Global, whole: Piece<'_>) -> Result<Option<TagSet>, Memory>
+    ensures { IfOk result (λ tags. tags ≡ each_or_none (λ (p : Part). tag_of p.text) (pieces_between 44 (part_of whole.entry))) }
+{
+    let pieces = pieces(alloc, whole, ',')?;
+    let tags = tags_among(alloc, pieces.as_slice())?;
+    Ok(tags)
 }
 
 /// The tags that the pieces spell, unless some piece spells none.

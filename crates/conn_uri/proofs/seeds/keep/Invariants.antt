@@ -1,6 +1,7 @@
 use Rattle.std.proofs.Common.{◌≡◌, take}
 use Rattle.std.specs.Prelude.{fold, map}
-use Rattle.conn_uri.specs.Seeds.{with_host, HasSeen}
+use Rattle.conn_uri.specs.Inside.{HasSeen}
+use Rattle.conn_uri.specs.Seeds.{with_host}
 use Rattle.conn_uri.proofs.SeedLemmas.{IsKept}
 use Rattle.conn_uri.proofs.seeds.keep.Given as goal
 

@@ -1,0 +1,10 @@
+pub mod Choices
+pub mod Configurations
+pub mod Each
+pub mod Escapes
+pub mod Grammar
+pub mod Inside
+pub mod Options
+pub mod Reading
+pub mod Seeds
+pub mod Values

@@ -84,7 +84,7 @@ pieces_from-found mark at (b ∷ rest) found = elim (eqb_tells b mark) [
       let long : at + (length (b ∷ rest) - length rest) ≡ at + 1 = omega arith in
       pieces-here mark at b rest w.0
       ∙ sym ((λ i. record { at = at; text = front i } ∷ pieces_from mark (at + (length (b ∷ rest) - length (back i))) (back i))
-        ∙ ap (λ k. record { at = at; text = [] } ∷ pieces_from mark k rest) long)
+      ∙ ap (λ k. record { at = at; text = [] } ∷ pieces_from mark k rest) long)
   | inr w ↦
       let front = before-other mark b rest w.0 in
       let back = behind-other mark b rest w.0 in
@@ -93,7 +93,7 @@ pieces_from-found mark at (b ∷ rest) found = elim (eqb_tells b mark) [
       pieces-other mark at b rest w.0
       ∙ ap (onto at b) (pieces_from-found mark (at + 1) rest (sym (is_in-other mark b rest w.0) ∙ found))
       ∙ sym ((λ i. record { at = at; text = front i } ∷ pieces_from mark (at + (length (b ∷ rest) - length (back i))) (back i))
-        ∙ ap (λ k. record { at = at; text = b ∷ before mark rest } ∷ pieces_from mark k (behind mark rest)) long)
+      ∙ ap (λ k. record { at = at; text = b ∷ before mark rest } ∷ pieces_from mark k (behind mark rest)) long)
 ]
 
 pub pieces-none : (mark : ℕ) (p : Part) → is_in mark p.text ≡ false → pieces mark p ≡ p ∷ []

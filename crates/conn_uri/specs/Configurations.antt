@@ -57,20 +57,20 @@ pub record IsConfiguration (c : Configuration) : Type 0 where
 -- Each is at its default here (URI Options; own: the defaults of socketTimeoutMS and waitQueueTimeoutMS).
 abbrev pub defaults : Chosen
 defaults = record {
-  set_name = None; -- replicaSet
-  direct = false; -- directConnection
-  retry_writes = true; -- retryWrites
-  connect_ms = 10000; -- connectTimeoutMS
-  socket_ms = 30000; -- socketTimeoutMS
-  select_ms = 30000; -- serverSelectionTimeoutMS
-  beat_ms = 10000; -- heartbeatFrequencyMS
-  threshold_ms = 15; -- localThresholdMS
-  wait_ms = 30000; -- waitQueueTimeoutMS
-  idle_ms = 0; -- maxIdleTimeMS
-  max_pool = 100; -- maxPoolSize
-  max_connecting = 2; -- maxConnecting
-  mode = mode.Primary; -- readPreference
-  tag_sets = []; -- readPreferenceTags
+  set_name = None;  -- replicaSet
+  direct = false;  -- directConnection
+  retry_writes = true;  -- retryWrites
+  connect_ms = 10000;  -- connectTimeoutMS
+  socket_ms = 30000;  -- socketTimeoutMS
+  select_ms = 30000;  -- serverSelectionTimeoutMS
+  beat_ms = 10000;  -- heartbeatFrequencyMS
+  threshold_ms = 15;  -- localThresholdMS
+  wait_ms = 30000;  -- waitQueueTimeoutMS
+  idle_ms = 0;  -- maxIdleTimeMS
+  max_pool = 100;  -- maxPoolSize
+  max_connecting = 2;  -- maxConnecting
+  mode = mode.Primary;  -- readPreference
+  tag_sets = [];  -- readPreferenceTags
   warnings = [];
   left = [];
 }
@@ -82,10 +82,23 @@ preference_of c = record { mode = c.mode; tag_sets = c.tag_sets }
 -- The configuration of these seeds and this database, with what was chosen.
 abbrev pub configured : List Address → List ℕ → Chosen → Configuration
 configured hosts db c = record {
-  hosts = hosts; set_name = c.set_name; direct = c.direct; db = db; read = preference_of c; retry_writes = c.retry_writes;
-  connect_ms = c.connect_ms; socket_ms = c.socket_ms; select_ms = c.select_ms; beat_ms = c.beat_ms;
-  threshold_ms = c.threshold_ms; wait_ms = c.wait_ms; idle_ms = c.idle_ms; max_pool = c.max_pool;
-  max_connecting = c.max_connecting; warnings = c.warnings }
+  hosts = hosts;
+  set_name = c.set_name;
+  direct = c.direct;
+  db = db;
+  read = preference_of c;
+  retry_writes = c.retry_writes;
+  connect_ms = c.connect_ms;
+  socket_ms = c.socket_ms;
+  select_ms = c.select_ms;
+  beat_ms = c.beat_ms;
+  threshold_ms = c.threshold_ms;
+  wait_ms = c.wait_ms;
+  idle_ms = c.idle_ms;
+  max_pool = c.max_pool;
+  max_connecting = c.max_connecting;
+  warnings = c.warnings;
+}
 
 -- The configuration of these seeds, this set's name and this database, each option at its default.
 abbrev pub plain_configuration : List Address → Option (List ℕ) → List ℕ → Configuration

@@ -8,11 +8,10 @@ ghost use Rattle.conn_uri.specs.Options.{asking, taken};
 ghost use Rattle.conn_uri.specs.Values.{some_text, truth as truth_of};
 
 use crate::chosen::Chosen;
-use crate::defaults;
 use crate::said::Said;
 use crate::uri_option::UriOption;
 use crate::values::{limit, tags, truth, whole};
-use crate::Memory;
+use crate::{Memory, defaults};
 use bson_doc::{Rows, Text};
 use read_pref::Mode;
 use std::alloc::Global;
@@ -154,12 +153,7 @@ fn set_count(field: &mut u32, value: Option<u64>) -> bool
 }
 
 /// An option asks for what is left out, or does not, where its value reads.
-fn ask(
-    alloc: Global,
-    left: &mut Rows<Text>,
-    name: &str,
-    asks: Option<bool>,
-) -> Result<bool, Memory>
+fn ask(alloc: Global, left: &mut Rows<Text>, name: &str, asks: Option<bool>) -> Result<bool, Memory>
     ensures read { IfOk result (λ is_read. is_read ≡ is_some asks) }
     ensures left { OnOk result (left.new ≡ option_map_or (λ b. asking name.now b left.old) asks left.old) }
 {

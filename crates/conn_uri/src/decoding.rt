@@ -46,10 +46,7 @@ fn decode_each(alloc: Global, pieces: &[Piece<'_>]) -> Result<Rows<Text>, UriFau
 }
 
 /// What each piece of the options says, up to the first escape at fault.
-fn say_each(
-    alloc: Global,
-    pieces: &[Piece<'_>],
-) -> Result<Rows<Option<Said>>, UriFault>
+fn say_each(alloc: Global, pieces: &[Piece<'_>]) -> Result<Rows<Option<Said>>, UriFault>
     ensures { result ≢ Err UriFault.Memory → result ≡ read_each (λ p. said_in (part_of p)) pieces.now }
 {
     let mut options = Rows::new(alloc);

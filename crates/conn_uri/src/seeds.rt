@@ -1,7 +1,8 @@
 //! The hosts of a connection string (Connection String, Host Information).
-ghost use Rattle.std.specs.Prelude.{◌≡◌, ◌≢◌, List, [], ◌∷◌, ◌++◌, filter, fold, map, not, Err, IfOk, OnOk, if◌then◌else◌};
+ghost use Rattle.std.specs.Prelude.{◌≡◌, ◌≢◌, List, [], ◌∷◌, ◌++◌, filter, fold, length, map, not, ◌≤◌, Err, IfOk, OnOk, if◌then◌else◌};
 ghost use Rattle.std.specs.List.{list_any};
 ghost use Rattle.host_name.specs.Addresses.{Address, is_same_address};
+ghost use Rattle.conn_uri.specs.Configurations.{AreSeeds};
 ghost use Rattle.conn_uri.specs.Each.{read_each};
 ghost use Rattle.conn_uri.specs.Seeds.{host_in, is_path as is_socket_path, kept_once, seeds_in, with_host};
 ghost use Rattle.conn_uri.specs.Inside.{HasSeen};
@@ -66,8 +67,18 @@ fn host(alloc: Global, text: &str) -> Result<Host, UriFault>
     }
 }
 
-/// Each host once, where it comes first. Hosts are compared and not hashed: n of them take at most n log n comparisons.
+/// Each host once, where it comes first. Where there are 1 to 16,777,216 of them they are seeds that
+/// [`Settings::plain`](crate::Settings::plain) takes.
 pub fn distinct(alloc: Global, hosts: &[Host]) -> Result<Rows<Host>, Memory>
+    ensures once { IfOk result (λ kept. kept ≡ kept_once hosts.now) }
+    ensures seeds { IfOk result (λ kept. 1 ≤ length kept → length kept ≤ 16777216 → AreSeeds kept) }
+{
+    let kept = each_once(alloc, hosts)?;
+    Ok(kept)
+}
+
+/// Each host once. Hosts are compared and not hashed: n of them take at most n log n comparisons.
+fn each_once(alloc: Global, hosts: &[Host]) -> Result<Rows<Host>, Memory>
     ensures { IfOk result (λ kept. kept ≡ kept_once hosts.now) }
 {
     let mut seen = BTreeSet::new(alloc);
@@ -75,6 +86,7 @@ pub fn distinct(alloc: Global, hosts: &[Host]) -> Result<Rows<Host>, Memory>
     keep(&mut seen, &mut kept, hosts)?;
     copied(alloc, kept.as_slice())
 }
+
 /// Puts those of the hosts that are not there yet last, in order.
 fn keep<'a>(
     seen: &mut BTreeSet<&'a Host>,
@@ -128,4 +140,3 @@ fn copied(alloc: Global, hosts: &[&Host]) -> Result<Rows<Host>, Memory>
     }
     Ok(copies)
 }
-

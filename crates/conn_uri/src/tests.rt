@@ -1,25 +1,21 @@
 //! Calls that may want memory do not with ample memory.
 use super::*;
-use bson_doc::{Rows, Text};
-use host_name::Host;
 use std::test::Fail;
 
-/// Plain settings are copied.
-#[test]
-fn settings_are_copied(rt: HostRuntime) -> Result<(), Fail> {
-    let mut hosts = Rows::new(rt.alloc());
-    hosts.push(Host::parse(rt.alloc(), "A")?)?;
-    let settings = Settings::plain(rt.alloc(), hosts, None, Text::new(rt.alloc()));
-    let copy = settings.copy(rt.alloc())?;
-    assert_eq!(rt; copy.hosts.len(), 1);
-    Ok(())
-}
-
-/// A string is read.
+/// A string is read, and its settings are copied.
 #[test]
 fn a_string_is_read(rt: HostRuntime) -> Result<(), Fail> {
     let settings = parse(rt.alloc(), "mongodb://h:1,H:1/d?maxPoolSize=5")?;
-    assert_eq!(rt; settings.hosts.len(), 1);
-    assert_eq!(rt; settings.max_pool, 5);
+    let copy = settings.copy(rt.alloc())?;
+    assert_eq!(rt; copy.max_pool, 5);
+    Ok(())
+}
+
+/// Hosts are kept once, where they come first.
+#[test]
+fn hosts_are_kept_once(rt: HostRuntime) -> Result<(), Fail> {
+    let settings = parse(rt.alloc(), "mongodb://a,b,A")?;
+    let hosts = distinct(rt.alloc(), settings.hosts.as_slice())?;
+    assert_eq!(rt; hosts.len(), 2);
     Ok(())
 }

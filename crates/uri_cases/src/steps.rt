@@ -57,10 +57,7 @@ fn read(alloc: Global, text: &str) -> Result<Result<Settings, UriFault>, CaseFau
 }
 
 /// Plain settings.
-fn plain(
-    alloc: Global,
-    words: &mut Words<'_>,
-) -> Result<Result<Settings, UriFault>, CaseFault> {
+fn plain(alloc: Global, words: &mut Words<'_>) -> Result<Result<Settings, UriFault>, CaseFault> {
     let mut hosts = Rows::new(alloc);
     for text in words.next_as("hosts")?.split(',') {
         match Host::parse(alloc, text) {

@@ -15,4 +15,4 @@ pub returns-in-Err : goal.returns-in-Err
 returns-in-Err c other =
     let read = err_is_read _ _ _ _ _ c.decode.ensures c.in-Err.is refl other in
     sym (read_each-stops (λ p. decoded (part_of p)) c.args.pieces.now c.loop-piece.texts c.loop-piece.piece-index c.piece-item.result c.in-Err.fault
-      c.loop-piece-test.true c.piece-item.is read) ∙ c.loop-piece.invariant
+    c.loop-piece-test.true c.piece-item.is read) ∙ c.loop-piece.invariant

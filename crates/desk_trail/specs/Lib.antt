@@ -1,0 +1,12 @@
+pub mod Clients
+pub mod Facts
+pub mod Cores
+pub mod Owed
+pub mod Pools
+pub mod Checks
+pub mod Topologies
+pub mod Looks
+pub mod Leases
+pub mod Attempts
+pub mod Requests
+pub mod Legal

@@ -1,0 +1,13 @@
+//! The trail of all that a client did, and what makes a trail legal.
+#![tactic(auto)]
+
+mod entry;
+mod request;
+mod step;
+
+pub use entry::{CheckHow, Entry, LookedHow, OfferedHow};
+pub use request::{Purpose, Request};
+pub use step::Step;
+
+/// Want of memory, the error of calls that can fail in no other way.
+pub type Memory = std::alloc::AllocError;

@@ -4,10 +4,12 @@ use Rattle.conn_uri.specs.Configurations.{Configuration}
 use Rattle.cmd_build.specs.declared.command.Command.{Command}
 use Rattle.pool_book.specs.declared.rules.PoolRules.{PoolRules}
 
--- A client: its settings, and the commands that it is to run, which are known by their places (Connection String; CRUD).
+-- A client: its settings, the commands that it is to run, which are known by their places, and the moment at which it began
+-- (Connection String; CRUD).
 pub record Client : Type 0 where
   pub settings : Configuration
   pub commands : List Command
+  pub began : ℕ
 
 -- Milliseconds as microseconds.
 abbrev pub micros : ℕ → ℕ

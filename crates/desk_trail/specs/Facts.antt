@@ -1,5 +1,6 @@
 -- What a trail says, entry by entry, with what stands at the places that its entries name.
-use Rattle.std.specs.Prelude.{ℕ, ℤ, Bool, List, Option, None, Some, IsSome, All, slice_get, filter_map}
+use Rattle.std.specs.Prelude.{◌≡◌, ℕ, ℤ, Bool, true, List, Option, None, Some, is_some, slice_get, filter_map}
+use Rattle.std.specs.List.{list_all}
 use Rattle.std.specs.Option.{option_map}
 use Rattle.bson_doc.specs.declared.ids.Lsid.{Lsid}
 use Rattle.host_name.specs.Addresses.{Address}
@@ -90,4 +91,4 @@ facts_of l steps = filter_map (timed_fact l) steps
 
 -- Each step names a place at which something stands.
 abbrev pub ArePlaced : Lists → List Step → Type 0
-ArePlaced l steps = All (λ s. IsSome (timed_fact l s)) steps
+ArePlaced l steps = list_all (λ s. is_some (timed_fact l s)) steps ≡ true

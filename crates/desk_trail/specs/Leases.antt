@@ -8,7 +8,7 @@ use Rattle.sess_book.specs.Entries.{SessEntry}
 use Rattle.sess_book.specs.declared.session.Session.{Session}
 use Rattle.write_retry.specs.declared.events.Next.{Next}
 use Rattle.write_retry.specs.declared.events.Next.TheVariants as next
-use Rattle.desk_trail.specs.Cores.{Core, Running, Choice, with_command}
+use Rattle.desk_trail.specs.States.{ClientState, CommandState, Selected, with_command}
 use Rattle.desk_trail.specs.Facts.{Fact}
 use Rattle.desk_trail.specs.Facts as fact
 
@@ -19,15 +19,15 @@ is_at_choice (next.CheckOut host) = true
 is_at_choice n = false
 
 -- It needs a session where the topology has session minutes, and has none yet (Driver Sessions, implicit sessions).
-abbrev pub minutes_needed : Running → Option ℤ
-minutes_needed c = if is_some c.session then None else option_and_then (λ (choice : Choice). choice.minutes) c.choice
+abbrev pub minutes_needed : CommandState → Option ℤ
+minutes_needed c = if is_some c.session then None else option_and_then (λ (selected : Selected). selected.minutes) c.selected
 
 -- It needs a number where it draws one, and has none yet (Retryable Writes, Generating Transaction Identifiers).
-abbrev pub needs_number : Running → Bool
+abbrev pub needs_number : CommandState → Bool
 needs_number c = c.op.drew && not (is_some c.number)
 
 -- It has all that it needs to ask its pool.
-pub record IsEquipped (c : Running) : Type 0 where
+pub record IsEquipped (c : CommandState) : Type 0 where
   pub session : minutes_needed c ≡ None
   pub number : needs_number c ≡ false
 
@@ -38,14 +38,14 @@ lease_step place lsid false minutes = session.Reused place minutes
 
 -- The entry of the sessions that an entry of the trail is, where it is one: a command leases one that it needs, for as long
 -- as the topology of its choice has it; it draws from its own, and gives that back.
-abbrev pub session_step_of : Running → Fact → Option SessEntry
+abbrev pub session_step_of : CommandState → Fact → Option SessEntry
 session_step_of c (fact.Leased op place lsid fresh) = option_map (lease_step place lsid fresh) (minutes_needed c)
 session_step_of c (fact.Drew op number) = option_map (λ place. session.Drew place number) c.session
 session_step_of c (fact.Returned op dirty kept) = option_map (λ place. session.Returned place dirty kept) c.session
 session_step_of c f = None
 
 -- The entry may stand among the sessions (Driver Sessions, Server Session Pool).
-abbrev pub SessionAllows : Core → ℕ → Option SessEntry → Type 0
+abbrev pub SessionAllows : ClientState → ℕ → Option SessEntry → Type 0
 SessionAllows w moment None = ⊥
 SessionAllows w moment (Some e) = session.MayStand w.sessions moment e
 
@@ -61,37 +61,37 @@ IsIdAt s place lsid false = (x : Session) × (slice_get s.made place ≡ Some x)
 -- ---- When they may stand
 
 -- A lease: of a command at its choice; a session that was there has its id.
-pub record IsLease (w : Core) (moment op place : ℕ) (lsid : Lsid) (fresh : Bool) : Type 0 where
-  pub running : Running
+pub record IsLease (w : ClientState) (moment op place : ℕ) (lsid : Lsid) (fresh : Bool) : Type 0 where
+  pub running : CommandState
   pub there : slice_get w.commands op ≡ Some running
   pub chose : is_at_choice running.op.next ≡ true
   pub session : SessionAllows w moment (session_step_of running (fact.Leased op place lsid fresh))
   pub id : IsIdAt w.sessions place lsid fresh
 
 -- A draw: of a command at its choice that needs a number.
-pub record IsDraw (w : Core) (moment op : ℕ) (number : ℤ) : Type 0 where
-  pub running : Running
+pub record IsDraw (w : ClientState) (moment op : ℕ) (number : ℤ) : Type 0 where
+  pub running : CommandState
   pub there : slice_get w.commands op ≡ Some running
   pub chose : is_at_choice running.op.next ≡ true
   pub needs : needs_number running ≡ true
   pub session : SessionAllows w moment (session_step_of running (fact.Drew op number))
 
 -- A return: dirty where an attempt failed once its request was queued (Driver Sessions, Dirty sessions).
-pub record IsReturn (w : Core) (moment op : ℕ) (dirty kept : Bool) : Type 0 where
-  pub running : Running
+pub record IsReturn (w : ClientState) (moment op : ℕ) (dirty kept : Bool) : Type 0 where
+  pub running : CommandState
   pub there : slice_get w.commands op ≡ Some running
   pub says : dirty ≡ running.is_dirty
   pub session : SessionAllows w moment (session_step_of running (fact.Returned op dirty kept))
 
 -- ---- What they do
 
-abbrev pub session_held : Core → ℕ → Fact → Option SessEntry
+abbrev pub session_held : ClientState → ℕ → Fact → Option SessEntry
 session_held w op f = option_and_then (λ c. session_step_of c f) (slice_get w.commands op)
 
-abbrev pub with_sessions : ℕ → ℕ → Fact → Core → Core
+abbrev pub with_sessions : ℕ → ℕ → Fact → ClientState → ClientState
 with_sessions moment op f w = record w { sessions = sessions_by moment (session_held w op f) w.sessions }
 
-abbrev pub leased_after : ℕ → Fact → Core → Core
+abbrev pub leased_after : ℕ → Fact → ClientState → ClientState
 leased_after moment (fact.Leased op place lsid fresh) w =
     with_command (with_sessions moment op (fact.Leased op place lsid fresh) w) op (λ c. record c { session = Some place })
 leased_after moment (fact.Drew op number) w =

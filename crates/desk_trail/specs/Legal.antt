@@ -1,5 +1,5 @@
 -- Which trails are legal: when each entry may stand, what the client is behind it, and what must follow it at once.
-use Rattle.std.specs.Prelude.{◌≡◌, ◌≢◌, ◌≤◌, ◌<◌, ℕ, ◌+◌, Bool, true, false, not, List, [], ◌∷◌, ◌++◌, Option, None, Some, IsSome, All, map, length, is_some, slice_get, if◌then◌else◌}
+use Rattle.std.specs.Prelude.{◌≡◌, ◌≤◌, ◌<◌, ℕ, ◌+◌, Bool, true, false, not, List, [], ◌∷◌, ◌++◌, Option, None, Some, map, length, is_some, slice_get, if◌then◌else◌}
 use Rattle.entry_judge.specs.declared.timed.Timed.{Timed}
 use Rattle.entry_judge.specs.Judge.{Legal, state_after}
 use Rattle.write_retry.specs.declared.attempt_end.AttemptEnd.{AttemptEnd}
@@ -11,24 +11,24 @@ use Rattle.desk_trail.specs.declared.entry.CheckHow.TheVariants as how
 use Rattle.desk_trail.specs.declared.request.Purpose.{Purpose}
 use Rattle.desk_trail.specs.declared.request.Purpose.TheVariants as purpose
 use Rattle.desk_trail.specs.declared.step.Step.{Step}
-use Rattle.desk_trail.specs.Attempts.{AtCommand, CommandAllows, IsAnswer, IsEnd, IsToEnter, IsToLook, asked_by, command_step, commands_after, end_by, end_owes, finish_owes, finished, not_lent_offers, source_at}
+use Rattle.desk_trail.specs.Attempts.{AtCommand, CommandAllows, IsAnswer, IsEnd, IsToEnter, IsToLook, asked_by, command_step, commands_after, end_by, end_owes, finish_owes, finished, not_lent_offers, endpoint_at}
 use Rattle.desk_trail.specs.Checks.{AtServer, IsCheckStream, IsDue, IsNew, MayCheckEnd, Runs, check_begins, check_ends, is_known_at, kept_at, leaves, offered_of, stream_taken}
 use Rattle.desk_trail.specs.Clients.{Client}
-use Rattle.desk_trail.specs.Cores.{Core, Server, fresh_core, fresh_server, Stands, with_command, with_server}
+use Rattle.desk_trail.specs.States.{ClientState, ServerState, fresh_client, fresh_server, Stays, with_command, with_server}
 use Rattle.desk_trail.specs.Facts.{ArePlaced, Fact, Lists, facts_of}
 use Rattle.desk_trail.specs.Facts as fact
 use Rattle.desk_trail.specs.Leases.{IsDraw, IsLease, IsReturn, leased_after}
 use Rattle.desk_trail.specs.Looks.{IsLook, look_owes, looked_after}
 use Rattle.desk_trail.specs.Owed.{InTurn, Owed, left_owed}
 use Rattle.desk_trail.specs.Owed as owed
-use Rattle.desk_trail.specs.Pools.{PoolAllows, holding_after, lines_after, pool_owes, pool_step, pools_after}
+use Rattle.desk_trail.specs.Pools.{PoolAllows, check_out_after, conn_streams_after, pool_owes, pool_step, pools_after}
 use Rattle.desk_trail.specs.Requests.{IsAsked, IsTooLarge, farewell_by}
 use Rattle.desk_trail.specs.Topologies.{IsOffered, offered_after, offered_owes}
 
 -- A point of a trail: the client there, what must come next, the greatest cluster time that was seen, whether the entry ahead is
 -- that of a reply, and the moment of that entry.
 pub record Point : Type 0 where
-  pub core : Core
+  pub state : ClientState
   pub owed : List Owed
   pub time : Option ℕ
   pub is_reply : Bool
@@ -37,19 +37,19 @@ pub record Point : Type 0 where
 -- ---- When an entry may stand
 
 -- Of its pool's entries, in the pool's words (CMAP).
-abbrev pub OfPool : Core → ℕ → Fact → Type 0
+abbrev pub OfPool : ClientState → ℕ → Fact → Type 0
 OfPool w moment f = PoolAllows w moment (pool_step w f)
 
 -- The stream of a new connection, where the dial did not fail.
-abbrev pub IsNewStream : Core → Option ℕ → Type 0
+abbrev pub IsNewStream : ClientState → Option ℕ → Type 0
 IsNewStream w None = Unit {0}
 IsNewStream w (Some stream) = IsNew w stream
 
 -- How an attempt may end: by itself; as too large; or, where that is owed, since it got no connection.
 abbrev pub MayEndAs : Client → Point → ℕ → ℕ → AttemptEnd → Type 0
-MayEndAs client p moment op (attempt.Unsent (unsent.TooLarge size most)) = IsTooLarge client p.core p.time op size most
+MayEndAs client p moment op (attempt.Unsent (unsent.TooLarge size most)) = IsTooLarge client p.state p.time op size most
 MayEndAs client p moment op (attempt.Unsent u) = Unit {0}
-MayEndAs client p moment op end = AtCommand p.core op (IsEnd client moment end)
+MayEndAs client p moment op end = AtCommand p.state op (IsEnd client moment end)
 
 -- A stamp exceeds the greatest that was seen (Driver Sessions, Gossipping the cluster time).
 abbrev pub Exceeds : ℕ → Option ℕ → Type 0
@@ -58,34 +58,34 @@ Exceeds stamp (Some greatest) = greatest < stamp
 
 -- Each kind of entry by its own rule.
 abbrev pub MayStand : Client → Point → ℕ → Fact → Type 0
-MayStand client p moment (fact.Named host address) = host ≡ length p.core.servers
-MayStand client p moment (fact.Dropped host) = Stands p.core host
-MayStand client p moment (fact.Offered place event taken) = IsOffered p.core place event taken
-MayStand client p moment (fact.PoolReady host) = OfPool p.core moment (fact.PoolReady host)
-MayStand client p moment (fact.PoolClear host) = OfPool p.core moment (fact.PoolClear host)
-MayStand client p moment (fact.PoolShut host) = OfPool p.core moment (fact.PoolShut host)
+MayStand client p moment (fact.Named host address) = host ≡ length p.state.servers
+MayStand client p moment (fact.Dropped host) = Stays p.state host
+MayStand client p moment (fact.Offered place event taken) = IsOffered p.state place event taken
+MayStand client p moment (fact.PoolReady host) = OfPool p.state moment (fact.PoolReady host)
+MayStand client p moment (fact.PoolClear host) = OfPool p.state moment (fact.PoolClear host)
+MayStand client p moment (fact.PoolShut host) = OfPool p.state moment (fact.PoolShut host)
 MayStand client p moment (fact.CheckBegan host stream) =
-    AtServer p.core host (λ s. IsDue moment s × IsCheckStream p.core s.check_stream stream)
-MayStand client p moment (fact.CheckDry host) = AtServer p.core host (λ s. (began : ℕ) × Runs began s)
-MayStand client p moment (fact.CheckEnded host how) = AtServer p.core host (MayCheckEnd client moment how)
+    AtServer p.state host (λ s. IsDue moment s × IsCheckStream p.state s.check_stream stream)
+MayStand client p moment (fact.CheckDry host) = AtServer p.state host (λ s. (began : ℕ) × Runs began s)
+MayStand client p moment (fact.CheckEnded host how) = AtServer p.state host (MayCheckEnd client moment how)
 MayStand client p moment (fact.Looked op a b kept picked) =
-    AtCommand p.core op IsToLook × IsLook client p.core moment op a b kept picked
+    AtCommand p.state op IsToLook × IsLook client p.state moment op a b kept picked
 MayStand client p moment (fact.Entered op host ticket) =
-    AtCommand p.core op (IsToEnter host) × OfPool p.core moment (fact.Entered op host ticket)
-MayStand client p moment (fact.Lent op host conn) = OfPool p.core moment (fact.Lent op host conn)
+    AtCommand p.state op (IsToEnter host) × OfPool p.state moment (fact.Entered op host ticket)
+MayStand client p moment (fact.Lent op host conn) = OfPool p.state moment (fact.Lent op host conn)
 MayStand client p moment (fact.Dialled op host conn stream) =
-    IsNewStream p.core stream × OfPool p.core moment (fact.Dialled op host conn stream)
-MayStand client p moment (fact.Settled op host conn stale) = OfPool p.core moment (fact.Settled op host conn stale)
-MayStand client p moment (fact.NotLent op host why) = OfPool p.core moment (fact.NotLent op host why)
-MayStand client p moment (fact.CheckedIn op host conn errored) = OfPool p.core moment (fact.CheckedIn op host conn errored)
-MayStand client p moment (fact.ConnShut host conn reason) = OfPool p.core moment (fact.ConnShut host conn reason)
-MayStand client p moment (fact.Leased op place lsid fresh) = IsLease p.core moment op place lsid fresh
-MayStand client p moment (fact.Drew op number) = IsDraw p.core moment op number
-MayStand client p moment (fact.Returned op dirty kept) = IsReturn p.core moment op dirty kept
-MayStand client p moment (fact.Asked place request) = IsAsked client p.core p.time place request
+    IsNewStream p.state stream × OfPool p.state moment (fact.Dialled op host conn stream)
+MayStand client p moment (fact.Settled op host conn stale) = OfPool p.state moment (fact.Settled op host conn stale)
+MayStand client p moment (fact.NotLent op host why) = OfPool p.state moment (fact.NotLent op host why)
+MayStand client p moment (fact.CheckedIn op host conn errored) = OfPool p.state moment (fact.CheckedIn op host conn errored)
+MayStand client p moment (fact.ConnShut host conn reason) = OfPool p.state moment (fact.ConnShut host conn reason)
+MayStand client p moment (fact.Leased op place lsid fresh) = IsLease p.state moment op place lsid fresh
+MayStand client p moment (fact.Drew op number) = IsDraw p.state moment op number
+MayStand client p moment (fact.Returned op dirty kept) = IsReturn p.state moment op dirty kept
+MayStand client p moment (fact.Asked place request) = IsAsked client p.state p.time place request
 MayStand client p moment (fact.Ended op end) = MayEndAs client p moment op end
 MayStand client p moment (fact.Time stamp) = (p.is_reply ≡ true) × Exceeds stamp p.time
-MayStand client p moment (fact.Finished op outcome) = AtCommand p.core op (IsAnswer outcome)
+MayStand client p moment (fact.Finished op outcome) = AtCommand p.state op (IsAnswer outcome)
 
 -- Once a client ends, only its farewells are asked, its pools closed and their connections shut; and whatever came before its end
 -- may have told a cluster time (own: how a client ends).
@@ -99,30 +99,36 @@ abbrev pub MayGoOn : Bool → Fact → Type 0
 MayGoOn false f = Unit {0}
 MayGoOn true f = IsLast f
 
--- An entry stands at a point: in its turn, at no earlier moment than the entry ahead, by the rule of its kind, and as an answer
--- to what was to be done next for its command.
+-- What must come next comes at once, at the moment of the entry ahead; other entries at no earlier moment (own: a client does
+-- all that belongs together in one step).
+abbrev pub InTime : List Owed → ℕ → ℕ → Type 0
+InTime [] ahead moment = ahead ≤ moment
+InTime (d ∷ ds) ahead moment = moment ≡ ahead
+
+-- An entry stands at a point: in its turn, in time, by the rule of its kind, and as an answer to what was to be done next for
+-- its command.
 pub record StandsAt (client : Client) (p : Point) (t : Timed Fact) : Type 0 where
-  pub moment : p.moment ≤ t.at
+  pub time : InTime p.owed p.moment t.at
   pub turn : InTurn p.owed t.what
-  pub going : MayGoOn p.core.is_ending t.what
+  pub going : MayGoOn p.state.is_ending t.what
   pub rule : MayStand client p t.at t.what
-  pub command : CommandAllows p.core (command_step client p.core t.what)
+  pub command : CommandAllows p.state (command_step client p.state t.what)
 
 -- ---- The client behind an entry
 
-abbrev pub pool_after : Core → ℕ → Fact → Core
-pool_after w moment f = holding_after (lines_after (pools_after w moment (pool_step w f)) f) f
+abbrev pub pool_after : ClientState → ℕ → Fact → ClientState
+pool_after w moment f = check_out_after (conn_streams_after (pools_after w moment (pool_step w f)) f) f
 
 -- A pool that is closed while its server stands in the topology is closed at the client's end.
-abbrev pub stays_at : Option Server → Bool
+abbrev pub stays_at : Option ServerState → Bool
 stays_at None = false
 stays_at (Some s) = not s.has_left
 
-abbrev pub ends_by : ℕ → Core → Core → Core
+abbrev pub ends_by : ℕ → ClientState → ClientState → ClientState
 ends_by host w v = if stays_at (slice_get w.servers host) then record v { is_ending = true } else v
 
 -- Each kind of entry, its command's events aside.
-abbrev pub changed_by : Client → ℕ → Core → Fact → Core
+abbrev pub changed_by : Client → ℕ → ClientState → Fact → ClientState
 changed_by client moment w (fact.Named host address) = record w { servers = w.servers ++ fresh_server client moment address ∷ [] }
 changed_by client moment w (fact.Dropped host) = with_server w host leaves
 changed_by client moment w (fact.Offered place event taken) = offered_after moment event w
@@ -150,8 +156,8 @@ changed_by client moment w (fact.Ended op end) = with_command w op (end_by end)
 changed_by client moment w (fact.Time stamp) = w
 changed_by client moment w (fact.Finished op outcome) = with_command w op finished
 
-abbrev pub core_after : Client → ℕ → Core → Fact → Core
-core_after client moment w f = commands_after (command_step client w f) (changed_by client moment w f)
+abbrev pub client_after : Client → ℕ → ClientState → Fact → ClientState
+client_after client moment w f = commands_after (command_step client w f) (changed_by client moment w f)
 
 -- ---- What must follow it at once
 
@@ -160,7 +166,7 @@ abbrev pub dial_owes : ℕ → ℕ → ℕ → Option ℕ → List Owed
 dial_owes op host conn (Some stream) = owed.Hello (purpose.Greeting host conn) stream true ∷ []
 dial_owes op host conn None = owed.NoDial op host ∷ []
 
-abbrev pub owes : Client → ℕ → Core → Fact → List Owed
+abbrev pub owes : Client → ℕ → ClientState → Fact → List Owed
 owes client moment w (fact.Dropped host) = owed.PoolShut host ∷ []
 owes client moment w (fact.Offered place event taken) = offered_owes w event
 owes client moment w (fact.PoolShut host) = pool_owes w (pool_step w (fact.PoolShut host))
@@ -170,9 +176,9 @@ owes client moment w (fact.Looked op a b kept picked) = look_owes moment picked 
 owes client moment w (fact.Dialled op host conn stream) = dial_owes op host conn stream
 owes client moment w (fact.Settled op host conn stale) = pool_owes w (pool_step w (fact.Settled op host conn stale))
 owes client moment w (fact.NotLent op host why) =
-    owed.Ended op why ∷ (pool_owes w (pool_step w (fact.NotLent op host why)) ++ not_lent_offers (source_at w op) why)
+    owed.Ended op why ∷ (pool_owes w (pool_step w (fact.NotLent op host why)) ++ not_lent_offers (endpoint_at w op) why)
 owes client moment w (fact.CheckedIn op host conn errored) = pool_owes w (pool_step w (fact.CheckedIn op host conn errored))
-owes client moment w (fact.Ended op end) = end_owes op (source_at w op) end
+owes client moment w (fact.Ended op end) = end_owes op (endpoint_at w op) end
 owes client moment w (fact.Finished op outcome) = finish_owes op (slice_get w.commands op)
 owes client moment w f = []
 
@@ -206,8 +212,8 @@ time_by time f = time
 -- The point behind an entry.
 abbrev pub point_after : Client → Point → Timed Fact → Point
 point_after client p t = record {
-  core = core_after client t.at p.core t.what;
-  owed = owes client t.at p.core t.what ++ left_owed p.owed t.what;
+  state = client_after client t.at p.state t.what;
+  owed = owes client t.at p.state t.what ++ left_owed p.owed t.what;
   time = time_by p.time t.what;
   is_reply = tells_reply t.what;
   moment = t.at;
@@ -216,11 +222,11 @@ point_after client p t = record {
 -- Where a trail begins: the seeds are to be named (SDAM, Initial Servers).
 abbrev pub beginning : Client → Point
 beginning client = record {
-  core = fresh_core client;
+  state = fresh_client client;
   owed = map (λ address. owed.Named address) client.settings.hosts;
   time = None;
   is_reply = false;
-  moment = 0;
+  moment = client.began;
 }
 
 -- The point to which what was told leads.

@@ -1,6 +1,6 @@
 pub mod Clients
 pub mod Facts
-pub mod Cores
+pub mod States
 pub mod Owed
 pub mod Pools
 pub mod Checks

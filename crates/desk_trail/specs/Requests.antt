@@ -1,6 +1,6 @@
 -- A client's requests (MongoDB wire protocol; the commands' documents).
 use denote.Ref.{Bor}
-use Rattle.std.specs.Prelude.{◌≡◌, ◌≢◌, ℕ, ℤ, pos, ◌+◌, ◌%◌, Bool, true, false, List, [], ◌∷◌, ◌++◌, Option, None, Some, All, length, slice_get, if◌then◌else◌}
+use Rattle.std.specs.Prelude.{◌≡◌, ℕ, ℤ, pos, ◌+◌, ◌%◌, Bool, true, false, List, [], ◌∷◌, ◌++◌, Option, None, Some, length, nat_eq, slice_get, if◌then◌else◌}
 use Rattle.std.specs.Option.{option_map, option_and_then, option_copied}
 use Rattle.std.specs.List.{list_any}
 use Rattle.std.specs.FinMap as map
@@ -35,7 +35,7 @@ use Rattle.desk_trail.specs.declared.request.Purpose.{Purpose}
 use Rattle.desk_trail.specs.declared.request.Purpose.TheVariants as purpose
 use Rattle.desk_trail.specs.declared.request.Request.{Request}
 use Rattle.desk_trail.specs.Clients.{Client}
-use Rattle.desk_trail.specs.Cores.{Core, Server, Running, Choice, Has, stream_of}
+use Rattle.desk_trail.specs.States.{ClientState, ServerState, CommandState, Selected, Has, stream_of}
 use Rattle.desk_trail.specs.Looks.{preference_for}
 use Rattle.desk_trail.specs.Owed.{Owed}
 
@@ -75,10 +75,10 @@ lsid_of s place = option_and_then (λ p. option_map (λ (x : Session). x.lsid) (
 
 -- What a command sends beside what it asks for: its session's id, the number that it drew, the mode that goes out, and the
 -- client's preference (Driver Sessions; Retryable Writes).
-pub record AreExtras (client : Client) (w : Core) (act : Act) (c : Running) (choice : Choice) (extras : Extras) : Type 0 where
+pub record AreExtras (client : Client) (w : ClientState) (act : Act) (c : CommandState) (selected : Selected) (extras : Extras) : Type 0 where
   pub session : extras.lsid ≡ lsid_of w.sessions c.session
   pub number : extras.number ≡ c.number
-  pub mode : extras.mode ≡ mode_out choice.kind choice.server.kind (preference_for client act).mode
+  pub mode : extras.mode ≡ mode_out selected.kind selected.server.kind (preference_for client act).mode
   pub read : option_copied extras.read ≡ Some client.settings.read
 
 -- A cluster time is the greatest that was seen, by its stamp; none where none was seen (Driver Sessions, Gossipping the cluster
@@ -89,45 +89,45 @@ IsGreatest (Some stamp) (Some t) = t.stamp ≡ stamp
 IsGreatest _ _ = ⊥
 
 -- What the server of a choice takes (MongoDB, Limits).
-abbrev pub sizes_of : Choice → Sizes
-sizes_of choice = record { max_doc = choice.server.max_doc; max_message = choice.server.max_message }
+abbrev pub sizes_of : Selected → Sizes
+sizes_of selected = record { max_doc = selected.server.max_doc; max_message = selected.server.max_message }
 
 -- What a command sends by a connection that is lent to it, where it asked for nothing since its choice.
-pub record Sends (client : Client) (w : Core) (time : Option ℕ) (op : ℕ) : Type 0 where
+pub record Sends (client : Client) (w : ClientState) (time : Option ℕ) (op : ℕ) : Type 0 where
   pub command : Command
   pub given : slice_get client.commands op ≡ Some command
-  pub running : Running
+  pub running : CommandState
   pub there : slice_get w.commands op ≡ Some running
   pub unasked : running.asked ≡ None
-  pub choice : Choice
-  pub chosen : running.choice ≡ Some choice
+  pub selected : Selected
+  pub chosen : running.selected ≡ Some selected
   pub host : ℕ
   pub ticket : ℕ
   pub conn : ℕ
-  pub lent : running.holding ≡ Has host ticket conn
-  pub server : Server
+  pub lent : running.check_out ≡ Has host ticket conn
+  pub server : ServerState
   pub at : slice_get w.servers host ≡ Some server
   pub extras : Extras
-  pub are : AreExtras client w command.act running choice extras
+  pub are : AreExtras client w command.act running selected extras
   pub cluster : Option ClusterTime
   pub greatest : IsGreatest time cluster
 
 -- Its document, and what of it is too large.
-abbrev pub document_sent : (client : Client) (w : Core) (time : Option ℕ) (op : ℕ) → Sends client w time op → Document
+abbrev pub document_sent : (client : Client) (w : ClientState) (time : Option ℕ) (op : ℕ) → Sends client w time op → Document
 document_sent client w time op s = command_document s.command client.settings.db s.extras s.cluster
 
-abbrev pub excess_of : (client : Client) (w : Core) (time : Option ℕ) (op : ℕ) → Sends client w time op → Option Excess
-excess_of client w time op s = excess s.command client.settings.db s.extras s.cluster (sizes_of s.choice)
+abbrev pub excess_of : (client : Client) (w : ClientState) (time : Option ℕ) (op : ℕ) → Sends client w time op → Option Excess
+excess_of client w time op s = excess s.command client.settings.db s.extras s.cluster (sizes_of s.selected)
 
 -- A request is a command's: on the stream of the connection that is lent to it, where nothing of it is too large.
-pub record IsRequestOf (client : Client) (w : Core) (time : Option ℕ) (op : ℕ) (r : Request) : Type 0 where
+pub record IsRequestOf (client : Client) (w : ClientState) (time : Option ℕ) (op : ℕ) (r : Request) : Type 0 where
   pub sends : Sends client w time op
   pub fits : excess_of client w time op sends ≡ None
   pub stream : stream_of sends.server sends.conn ≡ Some r.stream
   pub bytes : r.bytes ≡ frame r.id (pos 0) 0 (document_sent client w time op sends)
 
 -- A command is too large, by these sizes.
-pub record IsTooLarge (client : Client) (w : Core) (time : Option ℕ) (op size most : ℕ) : Type 0 where
+pub record IsTooLarge (client : Client) (w : ClientState) (time : Option ℕ) (op size most : ℕ) : Type 0 where
   pub sends : Sends client w time op
   pub over : excess_of client w time op sends ≡ Some (record { size = size; most = most })
 
@@ -140,7 +140,7 @@ IsPrimaryPreferred (need.Read p) = (p.now.mode ≡ mode.PrimaryPreferred) × (p.
 
 -- A request ends some of the kept sessions: the next list of their ids, on an available connection of a server that a read
 -- that prefers the primary may go to, and that carries no farewell yet (Driver Sessions, endSessions).
-pub record IsFarewell (w : Core) (r : Request) : Type 0 where
+pub record IsFarewell (w : ClientState) (r : Request) : Type 0 where
   pub minutes : ℤ
   pub has_sessions : session_minutes_of w.topology.servers ≡ Some minutes
   pub lists : List (List Lsid)
@@ -151,7 +151,7 @@ pub record IsFarewell (w : Core) (r : Request) : Type 0 where
   pub prefers : IsPrimaryPreferred criteria.need
   pub avoids : criteria.avoid ≡ None
   pub host : ℕ
-  pub server : Server
+  pub server : ServerState
   pub at : slice_get w.servers host ≡ Some server
   pub stays : server.has_left ≡ false
   pub selectable :
@@ -160,23 +160,23 @@ pub record IsFarewell (w : Core) (r : Request) : Type 0 where
   pub place : ℕ
   pub available : slice_get server.pool.state.available place ≡ Some free
   pub stream : stream_of server free.conn ≡ Some r.stream
-  pub unused : All (λ n. n ≢ r.stream) w.farewells
+  pub unused : list_any (nat_eq r.stream) w.farewells ≡ false
   pub bytes : r.bytes ≡ frame r.id (pos 0) 0 (farewell_document ids)
 
 -- ---- When a request may be queued, and what that does
 
-abbrev pub IsFor : Client → Core → Option ℕ → Purpose → Request → Type 0
+abbrev pub IsFor : Client → ClientState → Option ℕ → Purpose → Request → Type 0
 IsFor client w time (purpose.Command op) r = IsRequestOf client w time op r
 IsFor client w time purpose.Farewell r = IsFarewell w r
 IsFor client w time (purpose.Check host) r = Unit {0}
 IsFor client w time (purpose.Greeting host conn) r = Unit {0}
 
 -- The next request, with its id, and with the bytes of what it is for. A hello's stand where it is owed.
-pub record IsAsked (client : Client) (w : Core) (time : Option ℕ) (place : ℕ) (r : Request) : Type 0 where
+pub record IsAsked (client : Client) (w : ClientState) (time : Option ℕ) (place : ℕ) (r : Request) : Type 0 where
   pub next : place ≡ w.requests
   pub id : r.id ≡ id_at place
   pub is_for : IsFor client w time r.purpose r
 
-abbrev pub farewell_by : Purpose → ℕ → Core → Core
+abbrev pub farewell_by : Purpose → ℕ → ClientState → ClientState
 farewell_by purpose.Farewell stream w = record w { is_ending = true; farewells = w.farewells ++ stream ∷ [] }
 farewell_by p stream w = w

@@ -14,31 +14,31 @@ use Rattle.topo_book.specs.declared.verdict.Verdict.TheVariants as verdict
 use Rattle.pool_book.specs.Pool.{is_paused}
 use Rattle.desk_trail.specs.declared.entry.OfferedHow.{OfferedHow}
 use Rattle.desk_trail.specs.declared.entry.OfferedHow.TheVariants as offered
-use Rattle.desk_trail.specs.Cores.{Core, Server, number_of, with_server}
+use Rattle.desk_trail.specs.States.{ClientState, ServerState, number_of, with_server}
 use Rattle.desk_trail.specs.Checks.{asked}
 use Rattle.desk_trail.specs.Owed.{Owed}
 use Rattle.desk_trail.specs.Owed as owed
 
 -- The generation of a server's pool, 0 where there is no server.
-abbrev pub generation_in : Option Server → ℕ
+abbrev pub generation_in : Option ServerState → ℕ
 generation_in None = 0
 generation_in (Some s) = s.pool.state.generation
 
 -- The server that stands in the topology with that address.
-abbrev pub server_with : Core → Address → Option Server
+abbrev pub server_with : ClientState → Address → Option ServerState
 server_with w address = option_and_then (slice_get w.servers) (number_of w address)
 
 -- The generation that an event is compared with: that of its host's pool (SDAM, Why ignore errors based on CMAP's
 -- generation).
-abbrev pub generation_for : Core → TopoEvent → ℕ
+abbrev pub generation_for : ClientState → TopoEvent → ℕ
 generation_for w event = generation_in (server_with w (event_host event))
 
 -- What the topology answers to an event.
-abbrev pub verdict_on : Core → TopoEvent → Verdict
+abbrev pub verdict_on : ClientState → TopoEvent → Verdict
 verdict_on w event = taken w.topology.servers event (generation_for w event)
 
 -- What an entry says of it: the verdict, and of an accepted event whether the topologies before and behind it differ.
-abbrev pub Says : Core → TopoEvent → Verdict → OfferedHow → Type 0
+abbrev pub Says : ClientState → TopoEvent → Verdict → OfferedHow → Type 0
 Says w event verdict.Accepted (offered.Accepted differs) = IsFalse differs ↔ SameButMeans w.topology (rules.after w.topology event)
 Says w event verdict.Gone offered.Gone = Unit {0}
 Says w event (verdict.StaleVersion kept came) offered.StaleVersion = Unit {0}
@@ -46,7 +46,7 @@ Says w event (verdict.StaleGeneration kept came) offered.StaleGeneration = Unit 
 Says w event v h = ⊥
 
 -- The entry offers the next event, and says what became of it.
-pub record IsOffered (w : Core) (place : ℕ) (event : TopoEvent) (how : OfferedHow) : Type 0 where
+pub record IsOffered (w : ClientState) (place : ℕ) (event : TopoEvent) (how : OfferedHow) : Type 0 where
   pub next : place ≡ w.events
   pub says : Says w event (verdict_on w event) how
 
@@ -58,19 +58,19 @@ asks_of (Refused host version generation shutdown) = Some host
 asks_of (Reply description sample) = None
 asks_of (Broken host generation) = None
 
-abbrev pub asked_at : ℕ → Option ℕ → Core → Core
+abbrev pub asked_at : ℕ → Option ℕ → ClientState → ClientState
 asked_at moment None w = w
 asked_at moment (Some host) w = with_server w host (asked moment)
 
-abbrev pub with_ask : ℕ → TopoEvent → Core → Core
+abbrev pub with_ask : ℕ → TopoEvent → ClientState → ClientState
 with_ask moment event w = asked_at moment (option_and_then (number_of w) (asks_of event)) w
 
 -- The topology behind an event: one that is not accepted changes nothing (SDAM, Updating the TopologyDescription).
-abbrev pub topology_after : Core → TopoEvent → Topology
+abbrev pub topology_after : ClientState → TopoEvent → Topology
 topology_after w event = if is_accepted_verdict (verdict_on w event) then rules.after w.topology event else w.topology
 
 -- The client behind an event that was offered.
-abbrev pub offered_after : ℕ → TopoEvent → Core → Core
+abbrev pub offered_after : ℕ → TopoEvent → ClientState → ClientState
 offered_after moment event w =
     let asked = if is_accepted_verdict (verdict_on w event) then with_ask moment event w else w in
     record asked { topology = topology_after w event; events = w.events + 1 }
@@ -78,10 +78,10 @@ offered_after moment event w =
 -- ---- What it owes
 
 -- The pool of the host that is ready behind the event, where it is paused (SDAM, Connection Pool Management).
-abbrev pub is_paused_at : Core → ℕ → Bool
+abbrev pub is_paused_at : ClientState → ℕ → Bool
 is_paused_at w host = option_map_or (λ s. is_paused s.pool.state.state) (slice_get w.servers host) false
 
-abbrev pub readied : Core → Option ℕ → List Owed
+abbrev pub readied : ClientState → Option ℕ → List Owed
 readied w None = []
 readied w (Some host) = if is_paused_at w host then owed.PoolReady host ∷ [] else []
 
@@ -91,13 +91,13 @@ cleared host = map (λ x. owed.PoolClear x) (option_to_list host)
 
 -- What an accepted event owes: its added hosts are named, its removed hosts dropped, each in the order of hosts; then a pool is
 -- made ready, or cleared (SDAM, Updating the TopologyDescription, Connection Pool Management, Error handling).
-abbrev pub owed_by_change : Core → TopoEvent → Topology → List Owed
+abbrev pub owed_by_change : ClientState → TopoEvent → Topology → List Owed
 owed_by_change w event new =
     map (λ address. owed.Named address) (hosts_beyond new.servers w.topology.servers)
     ++ (map (λ host. owed.Dropped host) (filter_map (number_of w) (hosts_beyond w.topology.servers new.servers))
     ++ (readied w (option_and_then (number_of w) (ready_after event new))
     ++ cleared (option_and_then (number_of w) (cleared_after event new))))
 
-abbrev pub offered_owes : Core → TopoEvent → List Owed
+abbrev pub offered_owes : ClientState → TopoEvent → List Owed
 offered_owes w event =
     if is_accepted_verdict (verdict_on w event) then owed_by_change w event (rules.after w.topology event) else []

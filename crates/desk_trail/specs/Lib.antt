@@ -10,3 +10,4 @@ pub mod Leases
 pub mod Attempts
 pub mod Requests
 pub mod Legal
+pub mod Written

@@ -11,3 +11,5 @@ pub mod Attempts
 pub mod Requests
 pub mod Legal
 pub mod Written
+pub mod Streams
+pub mod Lanes

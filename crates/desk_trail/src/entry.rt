@@ -145,9 +145,7 @@ pub enum Entry {
 #[derive(Clone, Copy, Debug, PartialEq, Eq, Drop)]
 pub enum OfferedHow {
     /// It was taken in; `differs` where the topology's description is another one by it, mean round trip times aside.
-    Accepted {
-        differs: bool,
-    },
+    Accepted { differs: bool },
     /// The topology does not have its host.
     Gone,
     /// Its topology version is behind the one that is kept.
@@ -160,13 +158,9 @@ pub enum OfferedHow {
 #[derive(Clone, Copy, Debug, PartialEq, Eq, Drop)]
 pub enum CheckHow {
     /// A reply to the hello came, after this round trip.
-    Reply {
-        sample: u64,
-    },
+    Reply { sample: u64 },
     /// A reply came that is an error or is no hello reply; `code` is 0 where it has none.
-    Refused {
-        code: i32,
-    },
+    Refused { code: i32 },
     /// The peer ended the stream.
     Cut,
     /// A call of the net failed.
@@ -174,9 +168,7 @@ pub enum CheckHow {
     /// No whole reply came in time.
     Late,
     /// What came is no message, or answers another request; `at` is the place at fault.
-    Bad {
-        at: u32,
-    },
+    Bad { at: u32 },
     /// No stream could be made.
     NoDial,
 }
@@ -185,15 +177,11 @@ pub enum CheckHow {
 #[derive(Clone, Copy, Debug, PartialEq, Eq, Drop)]
 pub enum LookedHow {
     /// This server was chosen.
-    Chosen {
-        host: u32,
-    },
+    Chosen { host: u32 },
     /// No suitable server yet, and the deadline is not reached.
     NoneFits,
     /// No suitable server, at or past the deadline.
     Failed,
     /// This server speaks no wire version of this client.
-    Incompatible {
-        host: u32,
-    },
+    Incompatible { host: u32 },
 }

@@ -1,4 +1,20 @@
-//! The trail of all that a client did, and what makes a trail legal.
+//! The trail of all that a client did, and which trails are legal (SDAM, Server Monitoring, Server Selection, CMAP, Driver
+//! Sessions, Retryable Writes).
+//!
+//! A [`Trail`] is a list of [`Entry`]s with their moments, and the lists whose places they name. A [`TrailWriter`] appends to
+//! one within room that was taken ahead.
+//!
+//! The definitions are what a reader has to believe, and are read in this order:
+//!
+//! - `specs/Clients.antt`: what a client was given. `specs/Facts.antt`: what an entry says, with what stands at its place.
+//! - `specs/States.antt`: a client at a point of its trail: its topology, servers, sessions and commands.
+//! - `specs/Legal.antt`: when each kind of entry may stand, what the client is behind it, and what must follow it at once, one
+//!   line a kind in each of the three; `IsLegal` and `IsComplete`.
+//! - What these lines cite, by subject: `Owed` (what must come next), `Topologies`, `Checks`, `Looks`, `Leases`, `Pools`,
+//!   `Attempts`, `Requests`.
+//! - `specs/Streams.antt`: what a trail says of each stream. `specs/Lanes.antt`: commands that run in lanes.
+//!
+//! [`laws`] says what holds of every legal trail.
 #![tactic(auto)]
 
 mod entry;
@@ -6,6 +22,8 @@ pub mod laws;
 mod request;
 mod room;
 mod step;
+#[cfg(test)]
+mod tests;
 mod trail;
 mod writer;
 

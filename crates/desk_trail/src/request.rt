@@ -18,18 +18,11 @@ pub struct Request {
 #[derive(Clone, Copy, Debug, PartialEq, Eq, Drop)]
 pub enum Purpose {
     /// The hello of a check of the server (Server Monitoring).
-    Check {
-        host: u32,
-    },
+    Check { host: u32 },
     /// The hello that greets the server on a new connection of its pool (MongoDB Handshake).
-    Greeting {
-        host: u32,
-        conn: u64,
-    },
+    Greeting { host: u32, conn: u64 },
     /// A command's attempt.
-    Command {
-        op: u32,
-    },
+    Command { op: u32 },
     /// The end of the client's sessions (Driver Sessions, endSessions).
     Farewell,
 }

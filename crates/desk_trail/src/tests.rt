@@ -1,0 +1,65 @@
+//! Each public call on its happy path. Trails that are legal, and some that are not, stand in the crate `trail_worked`.
+use crate::{CheckHow, Entry, OfferedHow, Purpose, Request, Room, TrailWriter, laws};
+use bson_doc::{Bytes, Lsid, Rows};
+use host_name::Host;
+use std::alloc::Global;
+use std::test::Fail;
+use topo_rules::TopoEvent;
+
+/// A trail with room for a few of each.
+fn roomy(alloc: Global) -> Result<TrailWriter, Fail> {
+    let mut writer = TrailWriter::new(alloc);
+    let few = Room {
+        names: 2,
+        events: 2,
+        sessions: 2,
+        requests: 2,
+        steps: 8,
+    };
+    writer.reserve(few)?;
+    Ok(writer)
+}
+
+#[test]
+fn what_is_written_stands_in_order(rt: HostRuntime) -> Result<(), Fail> {
+    let mut writer = roomy(rt.alloc())?;
+    writer.name(5, Host::parse(rt.alloc(), "a")?);
+    let request = Request {
+        stream: 9,
+        id: 1,
+        purpose: Purpose::Check { host: 0 },
+        bytes: Bytes::new(rt.alloc()),
+    };
+    writer.append(6, Entry::CheckBegan { host: 0, stream: 9 });
+    writer.ask(6, request);
+    writer.append(
+        7,
+        Entry::CheckEnded {
+            host: 0,
+            how: CheckHow::Cut,
+        },
+    );
+    let event = TopoEvent::Broken {
+        host: Host::parse(rt.alloc(), "a")?,
+        generation: None,
+    };
+    writer.offer(7, event, OfferedHow::Accepted { differs: false });
+    writer.lease(8, 3, Lsid([7; 16]));
+    assert_eq!(rt; writer.names().len(), 1);
+    assert_eq!(rt; writer.events().len(), 1);
+    assert_eq!(rt; writer.sessions().len(), 1);
+    assert_eq!(rt; writer.requests().len(), 1);
+    assert_eq!(rt; writer.steps().len(), 6);
+    let trail = writer.into_trail();
+    let steps = trail.steps.as_slice();
+    assert_eq!(rt; steps.len(), 6);
+    assert!(rt; matches!(steps.first(), Some(step) if step.moment == 5));
+    assert!(rt; matches!(steps.last(), Some(step) if step.moment == 8));
+    Ok(())
+}
+
+#[test]
+fn laws_are_called(rt: HostRuntime) {
+    laws::a_trail_is_legal_place_by_place();
+    laws::the_front_of_a_legal_trail_is_legal();
+}

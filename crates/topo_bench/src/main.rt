@@ -1,18 +1,19 @@
-//! The program `topo_bench`: how long `topo_rules` takes to take an event in.
+//! The program `topo_bench`: how long `topo_rules` takes to take an event in, and `hello_reply` to describe a reply.
 //!
-//! `topo_bench NAMES EVENT HOSTS ROUNDS` makes a topology of that many hosts, lets each but the first answer as a secondary
-//! that lists all of them, takes an event of the first in ROUNDS times, and prints the nanoseconds that one of these took in
-//! the quickest of five batches. NAMES is `plain`, or `equal`: names that the toolchain's hasher, whose seed is fixed, gives
-//! one hash. EVENT is `primary`, the reply of a primary that lists all, or `broken`, a connection that broke. It is a
-//! measuring instrument and carries no claim; `scripts/bench` runs it.
+//! `topo_bench NAMES WHAT HOSTS ROUNDS` does a thing ROUNDS times, and prints the nanoseconds that one of these took in the
+//! quickest of five batches. NAMES is `plain`, or `equal`: names that the toolchain's hasher, whose seed is fixed, gives one
+//! hash. WHAT is `primary`, the reply of a primary that lists all hosts, or `broken`, a connection that broke, each of the
+//! first host of a topology of that many hosts, of which each other one answered before as a secondary that lists all; or it
+//! is `described`, a hello reply of the first host that lists all, which is read. It is a measuring instrument and carries no
+//! claim; `scripts/bench` runs it.
 //!
 //! It ends with 0, with 2 where the words are not in form, and with 1 where memory or the clock fails.
 #![tactic(auto)]
 
 ghost use Rattle.std.specs.Prelude.{◌≢◌, ◌≤◌, IfSome};
 
-use bson_doc::{Rows, Text};
-use hello_reply::{ServerDescription, ServerKind, default_unknown};
+use bson_doc::{Document, Rows, Text, Value};
+use hello_reply::{ServerDescription, ServerKind, default_unknown, describe};
 use host_name::Host;
 use std::alloc::Global;
 use std::env;
@@ -41,12 +42,23 @@ const EIGHT_DIGITS: u32 = 10_000_000;
 struct Asked {
     /// The names have one hash.
     equal: bool,
-    /// The event is a broken connection.
-    broken: bool,
+    /// What is done.
+    what: Work,
     /// How many hosts.
     count: u32,
     /// How often the event is taken in.
     rounds: u32,
+}
+
+/// What is done again and again.
+#[derive(Clone, Copy, PartialEq, Eq, Drop)]
+enum Work {
+    /// A primary's reply is taken in.
+    Primary,
+    /// A broken connection is taken in.
+    Broken,
+    /// A reply is described.
+    Described,
 }
 
 /// Why nothing was measured.
@@ -64,7 +76,7 @@ fn main(rt: HostRuntime) -> ExitCode {
     };
     let (line, status) = match trouble {
         Trouble::Words => (
-            "usage: topo_bench plain|equal primary|broken HOSTS ROUNDS",
+            "usage: topo_bench plain|equal primary|broken|described HOSTS ROUNDS",
             2,
         ),
         Trouble::Memory => ("topo_bench: memory", 1),
@@ -75,24 +87,55 @@ fn main(rt: HostRuntime) -> ExitCode {
 }
 
 fn measure(rt: &HostRuntime) -> Result<(), Trouble> {
-    let measure = words(rt).ok_or(Trouble::Words)?;
-    let hosts = hosts(rt.alloc(), measure).ok_or(Trouble::Memory)?;
-    let mut topology = opened(rt.alloc(), hosts.as_slice()).ok_or(Trouble::Memory)?;
-    take_members_in(rt.alloc(), &mut topology, hosts.as_slice()).ok_or(Trouble::Memory)?;
-    let event = event(rt.alloc(), measure, hosts.as_slice()).ok_or(Trouble::Memory)?;
+    let asked = words(rt).ok_or(Trouble::Words)?;
+    let hosts = hosts(rt.alloc(), asked).ok_or(Trouble::Memory)?;
+    if asked.what == Work::Described {
+        return describing(rt, asked, hosts.as_slice());
+    }
+    taking_in(rt, asked, hosts.as_slice())
+}
+
+/// How long an event takes to be taken in.
+fn taking_in(rt: &HostRuntime, asked: Asked, hosts: &[Host]) -> Result<(), Trouble>
+    requires { asked.rounds ≢ 0 }
+{
+    let mut topology = opened(rt.alloc(), hosts).ok_or(Trouble::Memory)?;
+    take_members_in(rt.alloc(), &mut topology, hosts).ok_or(Trouble::Memory)?;
+    let event = event(rt.alloc(), asked, hosts).ok_or(Trouble::Memory)?;
     let mut best = u64::MAX;
     for _ in 0..BATCHES {
         let start = Instant::now(rt).map_err(|_| Trouble::Clock)?;
-        for _ in 0..measure.rounds {
+        for _ in 0..asked.rounds {
             take_in(rt.alloc(), &mut topology, &event).ok_or(Trouble::Memory)?;
         }
-        let took = start.elapsed(rt).map_err(|_| Trouble::Clock)?;
-        let nanos = u64::try_from(took.as_nanos()).unwrap_or(u64::MAX);
-        best = best.min(nanos / u64::from(measure.rounds));
+        best = best.min(nanos_since(rt, &start)? / u64::from(asked.rounds));
     }
-    let count = measure.count;
-    let _ = println!(rt; "apply {best} {count}");
+    let _ = println!(rt; "apply {best} {}", asked.count);
     Ok(())
+}
+
+/// How long a reply takes to be described.
+fn describing(rt: &HostRuntime, asked: Asked, hosts: &[Host]) -> Result<(), Trouble>
+    requires { asked.rounds ≢ 0 }
+{
+    let reply = reply_document(rt.alloc(), hosts).ok_or(Trouble::Memory)?;
+    let first = hosts.first().ok_or(Trouble::Words)?;
+    let mut best = u64::MAX;
+    for _ in 0..BATCHES {
+        let start = Instant::now(rt).map_err(|_| Trouble::Clock)?;
+        for _ in 0..asked.rounds {
+            describe(rt.alloc(), &reply, first).map_err(|_| Trouble::Memory)?;
+        }
+        best = best.min(nanos_since(rt, &start)? / u64::from(asked.rounds));
+    }
+    let _ = println!(rt; "describe {best} {}", asked.count);
+    Ok(())
+}
+
+/// The nanoseconds since then.
+fn nanos_since(rt: &HostRuntime, start: &Instant) -> Result<u64, Trouble> {
+    let took = start.elapsed(rt).map_err(|_| Trouble::Clock)?;
+    Ok(u64::try_from(took.as_nanos()).unwrap_or(u64::MAX))
 }
 
 /// What the words ask for: 1 to 1,000 hosts, and at least one round.
@@ -102,7 +145,7 @@ fn words(rt: &HostRuntime) -> Option<Asked>
 {
     let mut words = env::args(rt).ok()?.skip(1);
     let equal = chosen(words.next()?.as_str(), "plain", "equal")?;
-    let broken = chosen(words.next()?.as_str(), "primary", "broken")?;
+    let what = work_named(words.next()?.as_str())?;
     let count: u32 = words.next()?.as_str().parse().ok()?;
     let rounds: u32 = words.next()?.as_str().parse().ok()?;
     if count < 1 || count > MOST_HOSTS || rounds == 0 {
@@ -110,7 +153,7 @@ fn words(rt: &HostRuntime) -> Option<Asked>
     }
     Some(Asked {
         equal,
-        broken,
+        what,
         count,
         rounds,
     })
@@ -124,14 +167,24 @@ fn chosen(word: &str, first: &str, second: &str) -> Option<bool> {
     (word == second).then_some(true)
 }
 
+/// What the word asks for.
+fn work_named(word: &str) -> Option<Work> {
+    match word {
+        "primary" => Some(Work::Primary),
+        "broken" => Some(Work::Broken),
+        "described" => Some(Work::Described),
+        _ => None,
+    }
+}
+
 /// So many different hosts.
-fn hosts(alloc: Global, measure: Asked) -> Option<Rows<Host>>
-    requires { measure.count ≤ 1000 }
+fn hosts(alloc: Global, asked: Asked) -> Option<Rows<Host>>
+    requires { asked.count ≤ 1000 }
 {
     let mut hosts = Rows::new(alloc);
-    for place in 0..measure.count {
+    for place in 0..asked.count {
         let number = place * STRIDE;
-        let text = if measure.equal {
+        let text = if asked.equal {
             format!(in alloc; "{EQUAL_FRONT}{}", EIGHT_DIGITS + number).ok()?
         } else {
             format!(in alloc; "h{number}.example").ok()?
@@ -154,9 +207,9 @@ fn opened(alloc: Global, hosts: &[Host]) -> Option<Topology> {
 }
 
 /// The event of the first host.
-fn event(alloc: Global, measure: Asked, hosts: &[Host]) -> Option<TopoEvent> {
+fn event(alloc: Global, asked: Asked, hosts: &[Host]) -> Option<TopoEvent> {
     let first = hosts.first()?;
-    if measure.broken {
+    if asked.what == Work::Broken {
         let host = first.copy(alloc).ok()?;
         return Some(TopoEvent::Broken {
             host,
@@ -164,6 +217,25 @@ fn event(alloc: Global, measure: Asked, hosts: &[Host]) -> Option<TopoEvent> {
         });
     }
     reply(alloc, first, ServerKind::Primary, hosts)
+}
+
+/// The hello reply of a primary that lists all.
+fn reply_document(alloc: Global, hosts: &[Host]) -> Option<Document> {
+    let mut listed = Rows::new(alloc);
+    for host in hosts {
+        let text = host.text(alloc).ok()?;
+        let name = Text::take(alloc, text.as_str()).ok()?;
+        listed.push(Value::Str(name)).ok()?;
+    }
+    let set = Text::take(alloc, "rs").ok()?;
+    let mut reply = Document::new(alloc);
+    reply.put(alloc, "ok", Value::Int32(1)).ok()?;
+    reply.put(alloc, "setName", Value::Str(set)).ok()?;
+    reply
+        .put(alloc, "isWritablePrimary", Value::Bool(true))
+        .ok()?;
+    reply.put(alloc, "hosts", Value::Array(listed)).ok()?;
+    Some(reply)
 }
 
 /// The reply of a host as a member of this kind that lists all.

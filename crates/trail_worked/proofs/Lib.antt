@@ -1,0 +1,7 @@
+mod MapRows
+mod TopologyRows
+mod Spots
+mod Rules
+mod Where
+mod Bytes
+mod OneInsertGood

@@ -1,1 +1,4 @@
 mod FactLemmas
+mod OrderLemmas
+mod ListLemmas
+mod PoolLemmas

@@ -10,3 +10,5 @@ pub mod Leases
 pub mod Attempts
 pub mod Requests
 pub mod Legal
+pub mod Orders
+pub mod Parts

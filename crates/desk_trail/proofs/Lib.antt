@@ -1,4 +1,5 @@
 mod FactLemmas
 mod OrderLemmas
 mod ListLemmas
+mod PartLemmas
 mod PoolLemmas

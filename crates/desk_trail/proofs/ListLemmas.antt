@@ -33,17 +33,18 @@ changed-same xs k f = at-same xs k f (slice_get xs k) refl
 pub changed-other : {A : Type 0} (xs : List A) (k i : ℕ) (f : A → A) → (k ≡ i → ⊥) → slice_get (changed xs k f) i ≡ slice_get xs i
 changed-other xs k i f n = at-other xs k i f (slice_get xs k) n
 
+pub read-kept : {A B : Type 0} (g : Option A → B) (f : A → A) → ((x : A) → g (Some (f x)) ≡ g (Some x)) → (o : Option A) → g (option_map f o) ≡ g o
+read-kept g f keeps None = refl
+read-kept g f keeps (Some x) = keeps x
+
 -- what is read of each item, where the change keeps it
 pub changed-keeps : {A B : Type 0} (g : Option A → B) (xs : List A) (k i : ℕ) (f : A → A) → ((x : A) → g (Some (f x)) ≡ g (Some x)) →
     g (slice_get (changed xs k f) i) ≡ g (slice_get xs i)
 changed-keeps g xs k i f keeps = elim (eqb_tells k i) [
   | inl w ↦ subst (λ n. g (slice_get (changed xs k f) n) ≡ g (slice_get xs n)) w.1
-      (ap g (changed-same xs k f) ∙ kept (slice_get xs k))
+      (ap g (changed-same xs k f) ∙ read-kept g f keeps (slice_get xs k))
   | inr w ↦ ap g (changed-other xs k i f w.1)
-] where
-  kept : (o : Option A) → g (option_map f o) ≡ g o
-  kept None = refl
-  kept (Some x) = keeps x
+]
 
 -- one item more
 pub slice_get-more : {A : Type 0} (xs : List A) (y : A) (i : ℕ) → (slice_get (xs ++ y ∷ []) i ≡ slice_get xs i) ⊎ (slice_get xs i ≡ None) × (i ≡ length xs) × (slice_get (xs ++ y ∷ []) i ≡ Some y)

@@ -3,3 +3,6 @@ mod OrderLemmas
 mod ListLemmas
 mod PartLemmas
 mod PoolLemmas
+mod RestLemmas
+mod TopologyLemmas
+mod CommandLemmas

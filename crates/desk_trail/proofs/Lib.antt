@@ -1,1 +1,8 @@
 mod FactLemmas
+mod OrderLemmas
+mod ListLemmas
+mod PartLemmas
+mod PoolLemmas
+mod RestLemmas
+mod TopologyLemmas
+mod CommandLemmas

@@ -13,3 +13,5 @@ pub mod Legal
 pub mod Written
 pub mod Streams
 pub mod Lanes
+pub mod Orders
+pub mod Parts

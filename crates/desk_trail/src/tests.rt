@@ -60,6 +60,15 @@ fn what_is_written_stands_in_order(rt: HostRuntime) -> Result<(), Fail> {
 
 #[test]
 fn laws_are_called(rt: HostRuntime) {
-    laws::a_trail_is_legal_place_by_place();
-    laws::the_front_of_a_legal_trail_is_legal();
+    laws::places::a_trail_is_legal_place_by_place();
+    laws::places::the_front_of_a_legal_trail_is_legal();
+    laws::places::a_legal_trail_is_legal_by_longer_lists();
+    laws::places::moments_never_fall();
+    laws::places::what_is_owed_comes_next();
+    laws::pools::each_pool_has_its_trail();
+    laws::sessions::sessions_have_their_history();
+    laws::topology::the_topology_is_of_its_accepted_events();
+    laws::topology::means_are_of_samples();
+    laws::commands::each_command_has_its_history();
+    laws::commands::each_answer_is_the_verdict_on_the_attempts();
 }

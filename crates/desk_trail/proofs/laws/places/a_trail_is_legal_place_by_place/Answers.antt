@@ -1,6 +1,6 @@
 use Rattle.entry_judge.specs.LegalLaws.{Legal-at, Legal-from}
 use Rattle.desk_trail.specs.Legal.{StandsAt, point_after, beginning}
-use Rattle.desk_trail.proofs.laws.a_trail_is_legal_place_by_place.Goals as goal
+use Rattle.desk_trail.proofs.laws.places.a_trail_is_legal_place_by_place.Goals as goal
 
 pub returns-clause-at : goal.returns-clause-at
 returns-clause-at c client ts l = Legal-at (StandsAt client) (point_after client) (beginning client) ts l

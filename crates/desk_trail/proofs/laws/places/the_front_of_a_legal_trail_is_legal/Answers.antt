@@ -4,7 +4,7 @@ use Rattle.entry_judge.specs.LegalLaws.{Legal-front}
 use Rattle.desk_trail.specs.Facts.{facts_of, timed_fact}
 use Rattle.desk_trail.specs.Legal.{AreLegal, StandsAt, point_after, beginning}
 use Rattle.desk_trail.proofs.FactLemmas.{list_all-front}
-use Rattle.desk_trail.proofs.laws.the_front_of_a_legal_trail_is_legal.Goals as goal
+use Rattle.desk_trail.proofs.laws.places.the_front_of_a_legal_trail_is_legal.Goals as goal
 
 pub returns : goal.returns
 returns c client lists front rest l = record {

@@ -1,0 +1,19 @@
+//! The sessions of a trail.
+ghost use Rattle.std.specs.Prelude.{◌≡◌, List};
+ghost use Rattle.entry_judge.specs.declared.timed.Timed.{Timed};
+ghost use Rattle.entry_judge.specs.Groups.{nothing_owed, place_behind};
+ghost use Rattle.sess_book.specs.Entries.{sessions_judge};
+ghost use Rattle.sess_book.specs.Laws.{IsHistory};
+ghost use Rattle.sess_book.specs.Sessions.{no_sessions};
+ghost use Rattle.desk_trail.specs.Clients.{Client};
+ghost use Rattle.desk_trail.specs.Facts.{Fact};
+ghost use Rattle.desk_trail.specs.Legal.{AreLegal, point_behind};
+ghost use Rattle.desk_trail.specs.Parts.{session_part};
+
+/// The leases, draws and returns are a history of a client's sessions, which leads to the sessions that the client has. So each
+/// law of such histories holds of them.
+pub fn sessions_have_their_history()
+    ensures history { (client : Client) (ts : List (Timed Fact)) → AreLegal client ts → IsHistory (session_part client ts) }
+    ensures place { (client : Client) (ts : List (Timed Fact)) → AreLegal client ts
+        → nothing_owed (point_behind client ts).state.sessions ≡ place_behind sessions_judge no_sessions (session_part client ts) }
+{}

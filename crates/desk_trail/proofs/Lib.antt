@@ -6,3 +6,5 @@ mod PoolLemmas
 mod RestLemmas
 mod TopologyLemmas
 mod CommandLemmas
+mod HeldLemmas
+mod CheckOutLemmas

@@ -12,3 +12,4 @@ pub mod Requests
 pub mod Legal
 pub mod Orders
 pub mod Parts
+pub mod Holds

@@ -6,7 +6,8 @@ ghost use Rattle.desk_trail.specs.Clients.{Client, pool_rules};
 ghost use Rattle.desk_trail.specs.Facts.{Fact};
 ghost use Rattle.desk_trail.specs.Legal.{AreLegal, point_behind};
 ghost use Rattle.desk_trail.specs.Parts.{pool_part};
-ghost use Rattle.desk_trail.specs.States.{ServerState};
+ghost use Rattle.desk_trail.specs.Holds.{DialsAt, HasAt, WaitsAt};
+ghost use Rattle.desk_trail.specs.States.{CommandState, Dials, Has, ServerState, Waits};
 
 /// The entries of each host's pool are a trail of a pool by the client's rules, which leads to the pool that the host has, with
 /// what must come next of it. So each law of a pool's trail holds of the pool of each host.
@@ -17,3 +18,19 @@ pub fn each_pool_has_its_trail()
         → slice_get (point_behind client ts).state.servers host ≡ Some s
         → s.pool ≡ place_behind (pool_rules client) (pool_part client host ts) }
 {}
+
+/// A command that waits for a connection waits in the pool that it asked; one that dialled a connection has it pending there;
+/// and one to which a connection is lent has it lent by that pool.
+pub fn each_command_is_where_its_pool_has_it()
+    ensures waits { (client : Client) (ts : List (Timed Fact)) (op : ℕ) (c : CommandState) (host ticket : ℕ) → AreLegal client ts
+        → slice_get (point_behind client ts).state.commands op ≡ Some c → c.check_out ≡ Waits host ticket
+        → WaitsAt (point_behind client ts).state host ticket }
+    ensures dials { (client : Client) (ts : List (Timed Fact)) (op : ℕ) (c : CommandState) (host ticket conn : ℕ) → AreLegal client ts
+        → slice_get (point_behind client ts).state.commands op ≡ Some c → c.check_out ≡ Dials host ticket conn
+        → DialsAt (point_behind client ts).state host ticket conn }
+    ensures has { (client : Client) (ts : List (Timed Fact)) (op : ℕ) (c : CommandState) (host ticket conn : ℕ) → AreLegal client ts
+        → slice_get (point_behind client ts).state.commands op ≡ Some c → c.check_out ≡ Has host ticket conn
+        → HasAt (point_behind client ts).state host ticket conn }
+{
+    pool_book::laws::each_connection_stands_once();
+}

@@ -196,7 +196,7 @@ waits-on q r x moment e m host ticket n h = elim (eqb_tells host x) [
   | inr w ↦ subst (λ (p : Place Pool PoolEntry). IsWaiting p.state ticket) (sym (m.others host (λ s. w.1 (sym s)))) h
 ]
 
-dials-on : (q r : Places) (x moment : ℕ) (e : PoolEntry) → Moves q r x moment e → (host ticket conn : ℕ) → (host ≡ x → pays ticket e ≡ false) →
+pub dials-on : (q r : Places) (x moment : ℕ) (e : PoolEntry) → Moves q r x moment e → (host ticket conn : ℕ) → (host ≡ x → pays ticket e ≡ false) →
     IsDialling (q host).state (q host).owed conn ticket → IsDialling (r host).state (r host).owed conn ticket
 dials-on q r x moment e m host ticket conn n h = elim (eqb_tells host x) [
   | inl w ↦
@@ -206,7 +206,7 @@ dials-on q r x moment e m host ticket conn n h = elim (eqb_tells host x) [
   | inr w ↦ subst (λ (p : Place Pool PoolEntry). IsDialling p.state p.owed conn ticket) (sym (m.others host (λ s. w.1 (sym s)))) h
 ]
 
-has-on : (q r : Places) (x moment : ℕ) (e : PoolEntry) → Moves q r x moment e → (host ticket conn : ℕ) → (host ≡ x → gives ticket e ≡ false) →
+pub has-on : (q r : Places) (x moment : ℕ) (e : PoolEntry) → Moves q r x moment e → (host ticket conn : ℕ) → (host ≡ x → gives ticket e ≡ false) →
     IsHeldBy (q host).state.lent conn ticket → IsHeldBy (r host).state.lent conn ticket
 has-on q r x moment e m host ticket conn n h = elim (eqb_tells host x) [
   | inl w ↦
@@ -219,7 +219,7 @@ has-on q r x moment e m host ticket conn n h = elim (eqb_tells host x) [
 ticket-at : (host x ticket : ℕ) → host ≡ x → cond (eqb host x) (Some ticket) None ≡ Some ticket
 ticket-at host x ticket e = rw (eq-eqb host x e) refl
 
-holds-on : (q r : Places) (x moment : ℕ) (e : PoolEntry) → Moves q r x moment e → (h : CheckOut) → ((ticket : ℕ) → ticket_with x h ≡ Some ticket → Frees ticket e) →
+pub holds-on : (q r : Places) (x moment : ℕ) (e : PoolEntry) → Moves q r x moment e → (h : CheckOut) → ((ticket : ℕ) → ticket_with x h ≡ Some ticket → Frees ticket e) →
     HoldsIn q h → HoldsIn r h
 holds-on q r x moment e m Nothing n i = tt
 holds-on q r x moment e m (Waits host ticket) n i = waits-on q r x moment e m host ticket (λ s. (n ticket (ticket-at host x ticket s)).takes) i
@@ -244,7 +244,7 @@ rises-on q r x moment e m host = elim (eqb_tells x host) [
 ]
 
 -- where a command was that is so behind the entry
-was : (g : CheckOut → CheckOut) (o p : Option CheckOut) (h : CheckOut) → p ≡ option_map g o → p ≡ Some h → (k : CheckOut) × (o ≡ Some k) × (h ≡ g k)
+pub was : (g : CheckOut → CheckOut) (o p : Option CheckOut) (h : CheckOut) → p ≡ option_map g o → p ≡ Some h → (k : CheckOut) × (o ≡ Some k) × (h ≡ g k)
 was g None p h e f = absurd (cc)
 was g (Some k) p h e f = (k, refl, let one : Some h ≡ Some (g k) = sym f ∙ e in cc)
 
@@ -255,7 +255,7 @@ pub record Enters (q r : Places) (actor x op host ticket : ℕ) : Type 0 where
   pub new : ticket ≡ (q x).state.entered
   pub counted : ticket < (r x).state.entered
 
-matched-on : (outs after : Outs) (q r : Places) (x moment : ℕ) (e : PoolEntry) (actor : ℕ) → Moves q r x moment e → Matched outs q →
+pub matched-on : (outs after : Outs) (q r : Places) (x moment : ℕ) (e : PoolEntry) (actor : ℕ) → Moves q r x moment e → Matched outs q →
     ((op host ticket : ℕ) → Tick after op host ticket → Tick outs op host ticket ⊎ Enters q r actor x op host ticket) →
     ((op : ℕ) (h : CheckOut) → after op ≡ Some h → HoldsIn r h) → Matched after r
 matched-on outs after q r x moment e actor m h ticks holds = record {

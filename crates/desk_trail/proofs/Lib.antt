@@ -8,3 +8,4 @@ mod TopologyLemmas
 mod CommandLemmas
 mod HeldLemmas
 mod CheckOutLemmas
+mod WhereLemmas

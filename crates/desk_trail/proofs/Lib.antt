@@ -6,3 +6,6 @@ mod PoolLemmas
 mod RestLemmas
 mod TopologyLemmas
 mod CommandLemmas
+mod HeldLemmas
+mod CheckOutLemmas
+mod WhereLemmas

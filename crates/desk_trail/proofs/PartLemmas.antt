@@ -5,7 +5,7 @@ use Rattle.entry_judge.specs.Judge.{Legal, state_after}
 use Rattle.entry_judge.specs.LegalLaws.{Legal-append, state_after-append}
 use Rattle.desk_trail.specs.Clients.{Client}
 use Rattle.desk_trail.specs.Facts.{Fact}
-use Rattle.desk_trail.specs.Legal.{Point, StandsAt, point_after}
+use Rattle.desk_trail.specs.Legal.{AreLegal, Point, StandsAt, beginning, point_after, point_behind}
 use Rattle.desk_trail.specs.Parts.{told_from}
 
 -- entries are legal from a state on, and lead to another
@@ -32,3 +32,37 @@ told-leads client tells May next at each p (t ∷ ts) l =
 -- what an entry tells nothing of stays
 pub stays-Leads : {S E : Type 0} (May : S → E → Type 0) (next : S → E → S) (s q : S) → q ≡ s → Leads May next s [] q
 stays-Leads May next s q e = record { legal = tt; to = e }
+
+-- ---- What each entry keeps
+
+-- a front of a legal trail with the entry behind it
+pub record Further (client : Client) (xs : List (Timed Fact)) (t : Timed Fact) : Type 0 where
+  pub front : AreLegal client xs
+  pub all : AreLegal client (xs ++ t ∷ [])
+  pub stands : StandsAt client (point_behind client xs) t
+  pub to : point_behind client (xs ++ t ∷ []) ≡ point_after client (point_behind client xs) t
+
+pub further : (client : Client) (xs : List (Timed Fact)) (t : Timed Fact) → AreLegal client xs → StandsAt client (point_behind client xs) t → Further client xs t
+further client xs t l s = record {
+  front = l;
+  all = Legal-append (StandsAt client) (point_after client) (beginning client) xs (t ∷ []) l (s, tt);
+  stands = s;
+  to = state_after-append (point_after client) (beginning client) xs (t ∷ []);
+}
+
+along-from : (client : Client) (P : Point → Type 0) →
+    ((xs : List (Timed Fact)) (t : Timed Fact) → Further client xs t → P (point_behind client xs) → P (point_after client (point_behind client xs) t)) →
+    (xs ys : List (Timed Fact)) → AreLegal client xs → Legal (StandsAt client) (point_after client) (point_behind client xs) ys → P (point_behind client xs) →
+    P (state_after (point_after client) (point_behind client xs) ys)
+along-from client P each xs [] l m h = h
+along-from client P each xs (y ∷ ys) l m h =
+    let f = further client xs y l m.0 in
+    subst (λ q. P (state_after (point_after client) q ys)) f.to
+    (along-from client P each (xs ++ y ∷ []) ys f.all
+    (subst (λ q. Legal (StandsAt client) (point_after client) q ys) (sym f.to) m.1)
+    (subst P (sym f.to) (each xs y f h)))
+
+pub along : (client : Client) (P : Point → Type 0) →
+    ((xs : List (Timed Fact)) (t : Timed Fact) → Further client xs t → P (point_behind client xs) → P (point_after client (point_behind client xs) t)) →
+    P (beginning client) → (ts : List (Timed Fact)) → AreLegal client ts → P (point_behind client ts)
+along client P each h ts l = along-from client P each [] ts tt l h

@@ -209,7 +209,7 @@ changed-moves client host p moment (fact.Ended op end) m = record { legal = tt; 
 changed-moves client host p moment (fact.Time stamp) m = record { legal = tt; to = refl }
 changed-moves client host p moment (fact.Finished op outcome) m = record { legal = tt; to = refl }
 
-pool-step-leads : (client : Client) (host : ℕ) (p : Point) (t : Timed Fact) → StandsAt client p t →
+pub pool-step-leads : (client : Client) (host : ℕ) (p : Point) (t : Timed Fact) → StandsAt client p t →
     Leads (Stands pool_judge) (next_place pool_judge) (pool_at client p.state.servers host) (pool_tells host p t)
     (pool_at client (point_after client p t).state.servers host)
 pool-step-leads client host p t s =

@@ -15,3 +15,4 @@ pub mod Streams
 pub mod Lanes
 pub mod Orders
 pub mod Parts
+pub mod Holds

@@ -1,5 +1,7 @@
 -- What the laws on the order of entries speak of.
-use Rattle.std.specs.Prelude.{◌≡◌, ◌⊎◌, Bool, true, false, List, [], ◌∷◌, length, take}
+use Rattle.std.specs.Prelude.{◌≡◌, ◌⊎◌, ℕ, ◌==◌, Bool, true, false, List, [], ◌∷◌, length, take}
+use Rattle.desk_trail.specs.declared.request.Purpose.{Purpose}
+use Rattle.desk_trail.specs.declared.request.Purpose.TheVariants as purpose
 use Rattle.desk_trail.specs.Facts.{Fact, Lists}
 use Rattle.desk_trail.specs.Facts as fact
 use Rattle.desk_trail.specs.Owed.{IsOwed, Owed}
@@ -22,3 +24,26 @@ abbrev pub ArePaid : List Owed → List Fact → Type 0
 ArePaid [] fs = Unit {0}
 ArePaid (d ∷ ds) [] = ⊥
 ArePaid (d ∷ ds) (f ∷ fs) = (IsOwed d f × ArePaid ds fs) ⊎ ArePaid (d ∷ ds) fs
+
+-- A request is an attempt's of that command.
+abbrev pub asks_for : ℕ → Purpose → Bool
+asks_for op (purpose.Command k) = k == op
+asks_for op (purpose.Check host) = false
+asks_for op (purpose.Greeting host conn) = false
+asks_for op purpose.Farewell = false
+
+-- An entry is of that command, and not the return of its session.
+abbrev pub is_of : ℕ → Fact → Bool
+is_of op (fact.Looked k a b kept picked) = k == op
+is_of op (fact.Entered k host ticket) = k == op
+is_of op (fact.Lent k host conn) = k == op
+is_of op (fact.Dialled k host conn stream) = k == op
+is_of op (fact.Settled k host conn stale) = k == op
+is_of op (fact.NotLent k host why) = k == op
+is_of op (fact.CheckedIn k host conn errored) = k == op
+is_of op (fact.Leased k place lsid fresh) = k == op
+is_of op (fact.Drew k number) = k == op
+is_of op (fact.Asked place request) = asks_for op request.purpose
+is_of op (fact.Ended k end) = k == op
+is_of op (fact.Finished k outcome) = k == op
+is_of op f = false

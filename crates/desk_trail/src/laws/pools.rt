@@ -6,7 +6,9 @@ ghost use Rattle.desk_trail.specs.Clients.{Client, pool_rules};
 ghost use Rattle.desk_trail.specs.Facts.{Fact};
 ghost use Rattle.desk_trail.specs.Legal.{AreLegal, point_behind};
 ghost use Rattle.desk_trail.specs.Parts.{pool_part};
-ghost use Rattle.desk_trail.specs.States.{ServerState};
+ghost use Rattle.desk_trail.specs.Holds.{DialsAt, HasAt, WaitsAt};
+ghost use Rattle.desk_trail.specs.Pools.{ticket_with};
+ghost use Rattle.desk_trail.specs.States.{CommandState, Dials, Has, ServerState, Waits};
 
 /// The entries of each host's pool are a trail of a pool by the client's rules, which leads to the pool that the host has, with
 /// what must come next of it. So each law of a pool's trail holds of the pool of each host.
@@ -17,3 +19,37 @@ pub fn each_pool_has_its_trail()
         → slice_get (point_behind client ts).state.servers host ≡ Some s
         → s.pool ≡ place_behind (pool_rules client) (pool_part client host ts) }
 {}
+
+/// A command that waits for a connection waits in the pool that it asked; one that dialled a connection has it pending there;
+/// and one to which a connection is lent has it lent by that pool.
+pub fn each_command_is_where_its_pool_has_it()
+    ensures waits { (client : Client) (ts : List (Timed Fact)) (op : ℕ) (c : CommandState) (host ticket : ℕ) → AreLegal client ts
+        → slice_get (point_behind client ts).state.commands op ≡ Some c → c.check_out ≡ Waits host ticket
+        → WaitsAt (point_behind client ts).state host ticket }
+    ensures dials { (client : Client) (ts : List (Timed Fact)) (op : ℕ) (c : CommandState) (host ticket conn : ℕ) → AreLegal client ts
+        → slice_get (point_behind client ts).state.commands op ≡ Some c → c.check_out ≡ Dials host ticket conn
+        → DialsAt (point_behind client ts).state host ticket conn }
+    ensures has { (client : Client) (ts : List (Timed Fact)) (op : ℕ) (c : CommandState) (host ticket conn : ℕ) → AreLegal client ts
+        → slice_get (point_behind client ts).state.commands op ≡ Some c → c.check_out ≡ Has host ticket conn
+        → HasAt (point_behind client ts).state host ticket conn }
+{
+    pool_book::laws::each_connection_stands_once();
+}
+
+/// Two commands have no ticket of one host in common: so each ticket that a pool has is one command's.
+pub fn no_two_commands_have_one_ticket()
+    ensures { (client : Client) (ts : List (Timed Fact)) (a b : ℕ) (x y : CommandState) (host ticket : ℕ) → AreLegal client ts
+        → slice_get (point_behind client ts).state.commands a ≡ Some x → slice_get (point_behind client ts).state.commands b ≡ Some y
+        → ticket_with host x.check_out ≡ Some ticket → ticket_with host y.check_out ≡ Some ticket → a ≡ b }
+{
+    pool_book::laws::each_connection_stands_once();
+}
+
+/// No connection is lent to two commands at a time.
+pub fn no_connection_is_lent_to_two()
+    ensures { (client : Client) (ts : List (Timed Fact)) (a b : ℕ) (x y : CommandState) (host s t conn : ℕ) → AreLegal client ts
+        → slice_get (point_behind client ts).state.commands a ≡ Some x → slice_get (point_behind client ts).state.commands b ≡ Some y
+        → x.check_out ≡ Has host s conn → y.check_out ≡ Has host t conn → a ≡ b }
+{
+    pool_book::laws::each_connection_stands_once();
+}

@@ -306,26 +306,26 @@ matched-acting outs after q r f x moment e m h moves a =
     matched-on outs after q r x moment e a.actor m h
     (λ op host ticket t. let w = was (moved f op) (outs op) (after op) t.out (moves op) t.there in inl (ticks op host ticket w.0 w.1 (ap (ticket_with host) (sym w.2) ∙ t.has)))
     (λ op k there. let w = was (moved f op) (outs op) (after op) k (moves op) there in subst (HoldsIn r) (sym w.2) (holds op w.0 w.1)) where
-  ticks : (op host ticket : ℕ) (k : CheckOut) → outs op ≡ Some k → ticket_with host (moved f op k) ≡ Some ticket → Tick outs op host ticket
-  ticks op host ticket k there has = record {
-    out = k;
-    there = there;
-    has = elim (acts_as f op) as (λ b. ticket_with host (cond b (moved_by f k) k) ≡ Some ticket → ticket_with host k ≡ Some ticket) [
-      | true ↦ λ g. a.keeps k host ticket g
-      | false ↦ λ g. g
-    ] has;
-  }
+      ticks : (op host ticket : ℕ) (k : CheckOut) → outs op ≡ Some k → ticket_with host (moved f op k) ≡ Some ticket → Tick outs op host ticket
+      ticks op host ticket k there has = record {
+        out = k;
+        there = there;
+        has = elim (acts_as f op) as (λ b. ticket_with host (cond b (moved_by f k) k) ≡ Some ticket → ticket_with host k ≡ Some ticket) [
+          | true ↦ λ g. a.keeps k host ticket g
+          | false ↦ λ g. g
+        ] has;
+      }
 
-  holds : (op : ℕ) (k : CheckOut) → outs op ≡ Some k → HoldsIn r (moved f op k)
-  holds op k there = elim (eqb_tells a.actor op) [
-    | inl w ↦
-        let yes : acts_as f op ≡ true = a.only op ∙ w.0 in
-        let same : a.tick.out ≡ k = let s = a.tick.there in let t : outs a.actor ≡ Some k = ap outs w.1 ∙ there in cc in
-        rw yes (subst (λ y. HoldsIn r (moved_by f y)) same a.becomes)
-    | inr w ↦
-        let no : acts_as f op ≡ false = a.only op ∙ w.0 in
-        rw no (holds-on q r x moment e m k
-        (λ ticket has. a.frees ticket (λ s. w.1 (h.once a.actor op x ticket (record { out = a.tick.out; there = a.tick.there; has = a.tick.has ∙ ap (λ y. Some y) s })
-        (record { out = k; there = there; has = has }))))
-        (h.holds op k there))
-  ]
+      holds : (op : ℕ) (k : CheckOut) → outs op ≡ Some k → HoldsIn r (moved f op k)
+      holds op k there = elim (eqb_tells a.actor op) [
+        | inl w ↦
+            let yes : acts_as f op ≡ true = a.only op ∙ w.0 in
+            let same : a.tick.out ≡ k = let s = a.tick.there in let t : outs a.actor ≡ Some k = ap outs w.1 ∙ there in cc in
+            rw yes (subst (λ y. HoldsIn r (moved_by f y)) same a.becomes)
+        | inr w ↦
+            let no : acts_as f op ≡ false = a.only op ∙ w.0 in
+            rw no (holds-on q r x moment e m k
+            (λ ticket has. a.frees ticket (λ s. w.1 (h.once a.actor op x ticket (record { out = a.tick.out; there = a.tick.there; has = a.tick.has ∙ ap (λ y. Some y) s })
+            (record { out = k; there = there; has = has }))))
+            (h.holds op k there))
+      ]

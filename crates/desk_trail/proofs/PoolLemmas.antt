@@ -185,8 +185,11 @@ changed-moves client host p moment (fact.PoolShut x) m =
     (ap (λ ss. pool_at client ss host) (ends_by-servers x p.state (pool_after p.state moment (fact.PoolShut x))))
 changed-moves client host p moment (fact.CheckBegan x stream) m =
     let w = stream_taken (kept_at p.state x) stream p.state in
-    record { legal = tt; to = pool-changed client w.servers x host (check_begins moment stream) (λ s. refl)
-    ∙ ap (λ ss. pool_at client ss host) (stream_taken-servers (kept_at p.state x) stream p.state) }
+    record {
+      legal = tt;
+      to = pool-changed client w.servers x host (check_begins moment stream) (λ s. refl)
+          ∙ ap (λ ss. pool_at client ss host) (stream_taken-servers (kept_at p.state x) stream p.state);
+    }
 changed-moves client host p moment (fact.CheckDry x) m = record { legal = tt; to = pool-changed client p.state.servers x host (λ s. record s { dry = Some moment }) (λ s. refl) }
 changed-moves client host p moment (fact.CheckEnded x h) m =
     record { legal = tt; to = pool-changed client p.state.servers x host (check_ends moment h (is_known_at p.state x)) (Keeps-ends moment h (is_known_at p.state x)) }
@@ -203,8 +206,11 @@ changed-moves client host p moment (fact.Drew op number) m = record { legal = tt
 changed-moves client host p moment (fact.Returned op dirty kept) m = record { legal = tt; to = refl }
 changed-moves client host p moment (fact.Asked place r) m =
     let w : ClientState = record p.state { requests = p.state.requests + 1 } in
-    record { legal = tt; to = ap (λ ss. pool_at client ss host)
-    (asked_by-servers moment r.purpose (farewell_by r.purpose r.stream w) ∙ farewell_by-servers r.purpose r.stream w) }
+    record {
+      legal = tt;
+      to = ap (λ ss. pool_at client ss host)
+          (asked_by-servers moment r.purpose (farewell_by r.purpose r.stream w) ∙ farewell_by-servers r.purpose r.stream w);
+    }
 changed-moves client host p moment (fact.Ended op end) m = record { legal = tt; to = refl }
 changed-moves client host p moment (fact.Time stamp) m = record { legal = tt; to = refl }
 changed-moves client host p moment (fact.Finished op outcome) m = record { legal = tt; to = refl }

@@ -20,7 +20,6 @@ use Rattle.trail_worked.specs.Words.{an_insert}
 str : (t : List ℕ) → payload (value.Str t) ≡ (kinds.Plain plain.Str, string t)
 str t = payload-Str (value.Str t) t refl
 
-
 -- one item of an array, under that name
 abbrev items : List ℕ → Payload
 items name = (kinds.Array, document (element name (kinds.Doc, document []) ++ []))
@@ -54,7 +53,7 @@ with_fields rest =
 
 front : (rest : List ℕ) →
     fields (payload (value.Str (codes "things"))) (payload (Array (Doc (record { elements = [] }) ∷ []))) (payload (value.Bool true))
-        (payload (Doc majority)) (payload (value.Str (codes "1"))) (payload (value.Str (codes "test"))) rest
+    (payload (Doc majority)) (payload (value.Str (codes "1"))) (payload (value.Str (codes "test"))) rest
     ≡ with_fields rest
 front rest = λ i. fields (str (codes "things") i) (docs i) (payload-Bool (value.Bool true) true refl i) (concern i) (str (codes "1") i) (str (codes "test") i) rest
 
@@ -70,7 +69,7 @@ module _ (mode : Option Mode) (read : Option (Bor Preference)) where
   spelled-numbered : (id : Lsid) (number : ℤ) →
       spelled (command_document an_insert (codes "test") (record { lsid = Some id; number = Some number; mode = mode; read = read }) None)
       ≡ with_fields (element (codes "lsid") (kinds.Doc, document (element (codes "id") (kinds.Plain plain.Binary, binary 4 id.0) ++ []))
-          ++ (element (codes "txnNumber") (kinds.Plain plain.Int64, int64 number) ++ []))
+      ++ (element (codes "txnNumber") (kinds.Plain plain.Int64, int64 number) ++ []))
   spelled-numbered id number = front _ ∙ (λ i.
       with_fields (element (codes "lsid") (of_session id i) ++ (element (codes "txnNumber") (payload-Int64 (value.Int64 number) number refl i) ++ [])))
 
@@ -86,6 +85,6 @@ module _ (mode : Option Mode) (read : Option (Bor Preference)) where
 
   pub fits_numbered : (id : Lsid) (number : ℤ) →
       not_over (with_fields (element (codes "lsid") (kinds.Doc, document (element (codes "id") (kinds.Plain plain.Binary, binary 4 id.0) ++ []))
-          ++ (element (codes "txnNumber") (kinds.Plain plain.Int64, int64 number) ++ []))) ≡ None →
+      ++ (element (codes "txnNumber") (kinds.Plain plain.Int64, int64 number) ++ []))) ≡ None →
       excess an_insert (codes "test") (record { lsid = Some id; number = Some number; mode = mode; read = read }) None (record { max_doc = 16777216; max_message = 48000000 }) ≡ None
   fits_numbered id number e = ap not_over (spelled-numbered id number) ∙ e

@@ -9,3 +9,5 @@ mod CommandLemmas
 mod HeldLemmas
 mod CheckOutLemmas
 mod WhereLemmas
+mod FieldLemmas
+mod DoneLemmas

@@ -11,3 +11,5 @@ mod CheckOutLemmas
 mod WhereLemmas
 mod FieldLemmas
 mod DoneLemmas
+mod LentFreeLemmas
+mod HolderLemmas

@@ -70,7 +70,7 @@ look_by-op w moment (looked.Chosen x) c = refl
 look_by-op w moment looked.Failed c = refl
 look_by-op w moment (looked.Incompatible x) c = refl
 
-changed-op : (client : Client) (moment : ℕ) (w : ClientState) (f : Fact) (op : ℕ) → op_at (changed_by client moment w f).commands op ≡ op_at w.commands op
+pub changed-op : (client : Client) (moment : ℕ) (w : ClientState) (f : Fact) (op : ℕ) → op_at (changed_by client moment w f).commands op ≡ op_at w.commands op
 changed-op client moment w (fact.Named x address) op = refl
 changed-op client moment w (fact.Dropped x) op = refl
 changed-op client moment w (fact.Offered place e taken) op = ap (λ cs. op_at cs op) (Beside-offered moment e w).commands

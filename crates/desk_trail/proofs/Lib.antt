@@ -9,3 +9,7 @@ mod CommandLemmas
 mod HeldLemmas
 mod CheckOutLemmas
 mod WhereLemmas
+mod FieldLemmas
+mod DoneLemmas
+mod LentFreeLemmas
+mod HolderLemmas

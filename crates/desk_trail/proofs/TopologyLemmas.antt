@@ -140,7 +140,7 @@ session-by client p moment (fact.Offered place e taken) m =
     record { legal = tt; to = ap (λ s. nothing_owed s) (Beside-offered moment e p.state).sessions }
 session-by client p moment f m = record { legal = tt; to = ap (λ s. nothing_owed s) (changed-rest client moment p.state f refl).sessions }
 
-session-step-leads : (client : Client) (p : Point) (t : Timed Fact) → StandsAt client p t →
+pub session-step-leads : (client : Client) (p : Point) (t : Timed Fact) → StandsAt client p t →
     Leads (Stands sessions_judge) (next_place sessions_judge) (nothing_owed p.state.sessions) (session_tells p t) (nothing_owed (point_after client p t).state.sessions)
 session-step-leads client p t s =
     let l = session-by client p t.at t.what s.rule in

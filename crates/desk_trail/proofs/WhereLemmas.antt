@@ -72,14 +72,14 @@ moves-of client p moment f v x e s told =
 
 -- ---- What an entry says of its command
 
-record Named (g : CheckOut → Option ℕ) (mk : ℕ → PoolEntry) (host : ℕ) (o : Option CheckOut) : Type 0 where
+pub record Named (g : CheckOut → Option ℕ) (mk : ℕ → PoolEntry) (host : ℕ) (o : Option CheckOut) : Type 0 where
   pub out : CheckOut
   pub there : o ≡ Some out
   pub number : ℕ
   pub has : g out ≡ Some number
   pub told : at_host host (option_map mk (option_and_then g o)) ≡ Some (host, mk number)
 
-named : (g : CheckOut → Option ℕ) (mk : ℕ → PoolEntry) (w : ClientState) (moment host : ℕ) (o : Option CheckOut) →
+pub named : (g : CheckOut → Option ℕ) (mk : ℕ → PoolEntry) (w : ClientState) (moment host : ℕ) (o : Option CheckOut) →
     PoolAllows w moment (at_host host (option_map mk (option_and_then g o))) → Named g mk host o
 named g mk w moment host None a = absurd a
 named g mk w moment host (Some h) a = by (g h) refl a where

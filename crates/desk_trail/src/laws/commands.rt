@@ -1,5 +1,5 @@
 //! The commands of a trail.
-ghost use Rattle.std.specs.Prelude.{◌≡◌, ℕ, Some, List, [], ◌∷◌, ◌++◌, slice_get};
+ghost use Rattle.std.specs.Prelude.{◌≡◌, ℕ, false, Some, List, [], ◌∷◌, ◌++◌, slice_get};
 ghost use Rattle.entry_judge.specs.declared.timed.Timed.{Timed};
 ghost use Rattle.cmd_build.specs.Ops.{writes, retries};
 ghost use Rattle.cmd_build.specs.declared.command.Command.{Command};
@@ -10,6 +10,7 @@ ghost use Rattle.desk_trail.specs.Clients.{Client};
 ghost use Rattle.desk_trail.specs.Facts.{Fact};
 ghost use Rattle.desk_trail.specs.Facts as fact;
 ghost use Rattle.desk_trail.specs.Legal.{AreLegal, point_behind};
+ghost use Rattle.desk_trail.specs.Orders.{is_of};
 ghost use Rattle.desk_trail.specs.Parts.{events_of};
 ghost use Rattle.desk_trail.specs.States.{CommandState};
 
@@ -35,3 +36,9 @@ pub fn each_answer_is_the_verdict_on_the_attempts()
 {
     write_retry::laws::answers_are_verdicts();
 }
+
+/// Behind its answer no entry is of a command, the return of its session aside: so it is answered once.
+pub fn behind_its_answer_no_entry_is_of_a_command()
+    ensures { (client : Client) (xs ys : List (Timed Fact)) (moment op : ℕ) (outcome : Outcome) (t : Timed Fact)
+        → AreLegal client (xs ++ record { at = moment; what = fact.Finished op outcome } ∷ (ys ++ t ∷ [])) → is_of op t.what ≡ false }
+{}

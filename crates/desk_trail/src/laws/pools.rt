@@ -1,9 +1,12 @@
 //! The pools of a trail.
-ghost use Rattle.std.specs.Prelude.{◌≡◌, ℕ, Some, List, slice_get};
+ghost use Rattle.std.specs.Prelude.{◌≡◌, ℕ, Some, List, [], ◌∷◌, ◌++◌, slice_get};
 ghost use Rattle.entry_judge.specs.declared.timed.Timed.{Timed};
+ghost use Rattle.entry_judge.specs.Groups.{entries_of};
 ghost use Rattle.pool_book.specs.Judge.{IsTrail, place_behind};
+ghost use Rattle.pool_book.specs.Laws.{IsFree};
 ghost use Rattle.desk_trail.specs.Clients.{Client, pool_rules};
 ghost use Rattle.desk_trail.specs.Facts.{Fact};
+ghost use Rattle.desk_trail.specs.Facts as fact;
 ghost use Rattle.desk_trail.specs.Legal.{AreLegal, point_behind};
 ghost use Rattle.desk_trail.specs.Parts.{pool_part};
 ghost use Rattle.desk_trail.specs.Holds.{DialsAt, HasAt, WaitsAt};
@@ -52,4 +55,13 @@ pub fn no_connection_is_lent_to_two()
         → x.check_out ≡ Has host s conn → y.check_out ≡ Has host t conn → a ≡ b }
 {
     pool_book::laws::each_connection_stands_once();
+}
+
+/// Where a connection is lent, nobody had it until then, and it was dialled in the generation that its pool has there.
+pub fn each_lent_connection_was_free()
+    ensures { (client : Client) (ts : List (Timed Fact)) (moment op host conn : ℕ)
+        → AreLegal client (ts ++ record { at = moment; what = fact.Lent op host conn } ∷ [])
+        → IsFree (entries_of (pool_part client host ts)) conn }
+{
+    pool_book::laws::each_lent_connection_was_free();
 }

@@ -4,4 +4,16 @@ mod Spots
 mod Rules
 mod Where
 mod Bytes
+mod Farewells
 mod OneInsertGood
+mod HandedOnGood
+mod LeasedAgainGood
+mod FailoverGood
+mod PoolClearedGood
+mod StaleGreetingGood
+mod HostDroppedGood
+mod NoServerGood
+mod DialFailedGood
+mod TooLargeGood
+mod CheckLateGood
+mod LastWordsGood

@@ -205,7 +205,7 @@ known-by : (w : ClientState) (l : Listed) (s : Option ServerState) → is_known_
 known-by w l None = refl
 known-by w l (Some s) = ap (λ o. option_map_or is_known o false) (get-map_of l.rows s.address)
 
-minutes-in : (l : Listed) → session_minutes_of (map_of l.rows) ≡ minutes_in l
+pub minutes-in : (l : Listed) → session_minutes_of (map_of l.rows) ≡ minutes_in l
 minutes-in l = ap (λ ds. least (map minutes_of (filter bears_data ds))) (values-map_of l.rows)
 
 description-in : (w : ClientState) (l : Listed) (s : Option ServerState) →

@@ -1,2 +1,13 @@
 pub mod Words
 pub mod OneInsert
+pub mod HandedOn
+pub mod LeasedAgain
+pub mod Failover
+pub mod PoolCleared
+pub mod StaleGreeting
+pub mod HostDropped
+pub mod NoServer
+pub mod DialFailed
+pub mod TooLarge
+pub mod CheckLate
+pub mod LastWords

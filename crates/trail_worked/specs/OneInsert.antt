@@ -24,8 +24,8 @@ abbrev pub alone : Address
 alone = host (codes "alone")
 
 -- A client of that seed with one insert, each option at its default.
-abbrev pub client : Client
-client = client_with (plain_configuration (alone ∷ []) None (codes "test")) (an_insert ∷ [])
+abbrev pub client_of_one : Client
+client_of_one = client_with (plain_configuration (alone ∷ []) None (codes "test")) (an_insert ∷ [])
 
 -- What the server says of itself: a standalone without sessions, of wire version 21.
 abbrev pub standalone : ServerDescription

@@ -1,10 +1,10 @@
 -- What the stories are told in: hosts, requests and bytes of commands.
 use Rattle.std.specs.Prelude.{◌≡◌, ℕ, ℤ, pos, true, false, List, ◌∷◌, [], Option, None, Some, codes, slice_set, take, drop, ◌++◌, ◌+◌}
-use Rattle.bson_doc.specs.declared.value.Document.{Document}
+use Rattle.bson_doc.specs.declared.ids.Lsid.{Lsid}
 use Rattle.host_name.specs.Addresses.{Address}
 use Rattle.msg_wire.specs.Framing.{frame}
 use Rattle.cmd_build.specs.Commands.{command_document}
-use Rattle.cmd_build.specs.Handshakes.{hello_document}
+use Rattle.cmd_build.specs.Handshakes.{farewell_document, hello_document}
 use Rattle.cmd_build.specs.declared.command.Command.{Command}
 use Rattle.cmd_build.specs.declared.command.Act.TheVariants as act
 use Rattle.cmd_build.specs.declared.extras.Extras.{Extras}
@@ -72,6 +72,10 @@ next_hello server stream id = record { stream = stream; id = id; purpose = purpo
 abbrev pub request : (op stream : ℕ) → ℤ → List ℕ → Request
 request op stream id bytes = record { stream = stream; id = id; purpose = purpose.Command op; bytes = bytes }
 
+-- The farewell that ends the sessions of these ids.
+abbrev pub farewell : (stream : ℕ) → ℤ → List Lsid → Request
+farewell stream id ids = record { stream = stream; id = id; purpose = purpose.Farewell; bytes = frame id (pos 0) 0 (farewell_document ids) }
+
 -- The bytes of a command.
 abbrev pub command_bytes : ℤ → Command → List ℕ → Extras → List ℕ
 command_bytes id command db extras = frame id (pos 0) 0 (command_document command db extras None)
@@ -85,5 +89,5 @@ wrote_one = record { result = said.Ok (pos 1) (pos 0); retryable = false; no_wri
 -- ---- What must follow
 
 -- A trail is complete: no entry must follow it.
-abbrev pub ArePaid : Client → List (Timed Fact) → Type 0
-ArePaid client ts = (point_behind client ts).owed ≡ []
+abbrev pub AreComplete : Client → List (Timed Fact) → Type 0
+AreComplete client ts = (point_behind client ts).owed ≡ []

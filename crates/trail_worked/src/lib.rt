@@ -2,5 +2,8 @@
 //! differ from it in one entry and are shown not legal.
 #![tactic(auto)]
 
+pub mod checks;
 pub mod commands;
+pub mod ending;
+pub mod pools;
 pub mod writing;

@@ -1,0 +1,26 @@
+-- A selection that fails at its deadline, once every check was read (Server Selection, serverSelectionTimeoutMS).
+use Rattle.std.specs.Prelude.{pos, List, [], ◌∷◌, None, codes}
+use Rattle.conn_uri.specs.Configurations.{plain_configuration}
+use Rattle.entry_judge.specs.declared.timed.Timed.{Timed}
+use Rattle.desk_trail.specs.Clients.{Client}
+use Rattle.desk_trail.specs.Facts.{Fact}
+use Rattle.trail_worked.specs.Words.{at, client_with, an_insert, check_hello}
+use Rattle.write_retry.specs.declared.outcome.Outcome.TheVariants as outcome
+use Rattle.desk_trail.specs.declared.entry.LookedHow.TheVariants as looked
+use Rattle.desk_trail.specs.Facts as fact
+use Rattle.trail_worked.specs.OneInsert.{alone}
+
+-- A client of the only seed with one insert, whose selections end after 600 milliseconds.
+abbrev pub client_in_haste : Client
+client_in_haste = client_with (record (plain_configuration (alone ∷ []) None (codes "test")) { select_ms = 600 }) (an_insert ∷ [])
+
+abbrev pub no_server : List (Timed Fact)
+no_server =
+    at 0 (fact.Named 0 alone)  -- 0: the seed is named
+    ∷ at 0 (fact.CheckBegan 0 1)  -- 1: its first check begins
+    ∷ at 0 (fact.Asked 0 (check_hello 0 1 (pos 1)))  -- 2: with a hello
+    ∷ at 100 (fact.Looked 0 7 8 [] looked.NoneFits)  -- 3: the insert looks for a server, and finds none yet; its deadline is 600 milliseconds later
+    ∷ at 600100 (fact.CheckDry 0)  -- 4: there the check has no answer still
+    ∷ at 600100 (fact.Looked 0 7 8 [] looked.Failed)  -- 5: so the insert finds no server
+    ∷ at 600100 (fact.Finished 0 outcome.NoServer)  -- 6: and is answered
+    ∷ []

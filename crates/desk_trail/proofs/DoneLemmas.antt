@@ -270,10 +270,10 @@ not-again p moment op number client h m =
     let at : Some (drawn m.running) ≡ Some true = sym (ap (λ o. option_map drawn o) m.there) ∙ h in
     let has : drawn m.running ≡ true = cc in
     shut m.running.op.drew (drawn m.running) has m.needs where
-  shut : (a b : Bool) → b ≡ true → (a && not b) ≡ true → ⊥
-  shut true true e n = absurd (cc)
-  shut true false e n = absurd (cc)
-  shut false b e n = absurd (cc)
+      shut : (a b : Bool) → b ≡ true → (a && not b) ≡ true → ⊥
+      shut true true e n = absurd (cc)
+      shut true false e n = absurd (cc)
+      shut false b e n = absurd (cc)
 
 drawn-from : (client : Client) (p : Point) (ys : List (Timed Fact)) (moment op : ℕ) (number : ℤ) → read drawn p.state.commands op ≡ Some true →
     Legal (StandsAt client) (point_after client) p (ys ++ record { at = moment; what = fact.Drew op number } ∷ []) → ⊥

@@ -121,7 +121,7 @@ lease-free law client xs t f e place step is =
     let part = session_part client xs in
     let x : Timed SessEntry = record { at = t.at; what = e } in
     let all : session_part client (xs ++ t ∷ []) ≡ part ++ x ∷ [] =
-        told_from-more client session_tells (beginning client) xs t ∙ ap (λ o. part ++ of_sessions t.at o) step in
+    told_from-more client session_tells (beginning client) xs t ∙ ap (λ o. part ++ of_sessions t.at o) step in
     let h : IsHistory (part ++ x ∷ []) = subst IsHistory all (session-leads client (xs ++ t ∷ []) f.all).legal in
     let free = law (part ++ x ∷ []) h (length part) place x (slice_get-last part x) is in
     subst (λ (p : Place Sessions SessEntry). IsHeldByNobody p.state.made place) (sym (session-leads client xs f.front).to)
@@ -248,7 +248,7 @@ holds-step law client xs moment (fact.Leased k place lsid fresh) f h =
     let step : session_held w k t.what ≡ Some (lease_step place lsid fresh l.minutes) = held-step w k t.what m.running m.there ∙ l.step in
     let g = λ (c : CommandState). record c { session = Some place } in
     let made : (client_after client moment w t.what).sessions.made ≡ (after w.sessions moment (lease_step place lsid fresh l.minutes)).made =
-        ap (λ (s : Sessions). s.made) (sessions-after client (point_behind client xs) t f.stands ∙ ap (λ o. sessions_by moment o w.sessions) step) in
+    ap (λ (s : Sessions). s.made) (sessions-after client (point_behind client xs) t f.stands ∙ ap (λ o. sessions_by moment o w.sessions) step) in
     subst (Held (read sess (client_after client moment w t.what).commands)) (sym made)
     (held-leased (read sess w.commands) (read sess (client_after client moment w t.what).commands) w.sessions.made (after w.sessions moment (lease_step place lsid fresh l.minutes)).made k place
     (own-read w.commands k g m.running m.there) (λ op n. other-read w.commands k op g n)
@@ -259,7 +259,7 @@ holds-step law client xs moment (fact.Drew k number) f h =
     let t : Timed Fact = record { at = moment; what = fact.Drew k number } in
     let m = f.stands.rule in
     let made : (client_after client moment w t.what).sessions.made ≡ (sessions_by moment (option_map (λ place. session.Drew place number) m.running.session) w.sessions).made =
-        ap (λ (s : Sessions). s.made) (sessions-after client (point_behind client xs) t f.stands ∙ ap (λ o. sessions_by moment o w.sessions) (held-step w k t.what m.running m.there)) in
+    ap (λ (s : Sessions). s.made) (sessions-after client (point_behind client xs) t f.stands ∙ ap (λ o. sessions_by moment o w.sessions) (held-step w k t.what m.running m.there)) in
     held-same (read sess w.commands) (read sess (client_after client moment w t.what).commands) w.sessions.made (client_after client moment w t.what).sessions.made
     (λ op. kept sess w.commands k op (λ c. record c { number = Some number }) (λ c. refl))
     (λ place i. subst (λ ys. IsOut ys place) (sym made) (drew-out moment number w.sessions m.running.session place i)) h
@@ -269,11 +269,11 @@ holds-step law client xs moment (fact.Returned k dirty keeps) f h =
     let m = f.stands.rule in
     let g = λ (c : CommandState). record c { session = None } in
     let made : (client_after client moment w t.what).sessions.made ≡ (sessions_by moment (option_map (λ place. session.Returned place dirty keeps) m.running.session) w.sessions).made =
-        ap (λ (s : Sessions). s.made) (sessions-after client (point_behind client xs) t f.stands ∙ ap (λ o. sessions_by moment o w.sessions) (held-step w k t.what m.running m.there)) in
+    ap (λ (s : Sessions). s.made) (sessions-after client (point_behind client xs) t f.stands ∙ ap (λ o. sessions_by moment o w.sessions) (held-step w k t.what m.running m.there)) in
     held-returned (read sess w.commands) (read sess (client_after client moment w t.what).commands) w.sessions (client_after client moment w t.what).sessions.made k
     (own-read w.commands k g m.running m.there) (λ op n. other-read w.commands k op g n)
     (λ a place x n. subst (λ ys. IsOut ys place) (sym made)
-        (returned-out (read sess w.commands) w.sessions moment k dirty keeps m.running.session (ap (λ o. option_map sess o) m.there) h a place x n)) h
+    (returned-out (read sess w.commands) w.sessions moment k dirty keeps m.running.session (ap (λ o. option_map sess o) m.there) h a place x n)) h
 holds-step law client xs moment (fact.Finished k outcome) f h =
     let w = (point_behind client xs).state in
     let t : Timed Fact = record { at = moment; what = fact.Finished k outcome } in

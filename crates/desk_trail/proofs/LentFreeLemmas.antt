@@ -48,8 +48,8 @@ lent-was-free law client ts moment op host conn l =
     let s = last-stands client (beginning client) ts t l in
     let n = named (ticket_with host) (λ k. pool.Lent k conn) p.state moment host (out_at p.state.commands op) s.rule in
     let tells : pool_tells host p t ≡ record { at = moment; what = pool.Lent n.number conn } ∷ [] =
-        ap (λ o. of_pool host moment o) n.told ∙ own-entry host moment (pool.Lent n.number conn) in
+    ap (λ o. of_pool host moment o) n.told ∙ own-entry host moment (pool.Lent n.number conn) in
     let part : pool_part client host (ts ++ t ∷ []) ≡ pool_part client host ts ++ record { at = moment; what = pool.Lent n.number conn } ∷ [] =
-        told_from-more client (pool_tells host) (beginning client) ts t ∙ ap (λ xs. pool_part client host ts ++ xs) tells in
+    told_from-more client (pool_tells host) (beginning client) ts t ∙ ap (λ xs. pool_part client host ts ++ xs) tells in
     law (pool_rules client) (pool_part client host ts) moment n.number conn
     (subst (IsTrail (pool_rules client)) part (pool-leads client host (ts ++ t ∷ []) l).legal)

@@ -113,16 +113,16 @@ abbrev pub no_account : Account
 no_account = record { dialler = None; answered = []; last = None; how = None }
 
 -- The request is somebody's, on a stream with that dialler.
-abbrev pub is_of : Whose → Option ℕ → Purpose → Bool
-is_of (OfCommand o) dialler (purpose.Command op) = o == op
-is_of (OfCheck x) dialler (purpose.Check host) = x == host
-is_of (OfConn x n) dialler (purpose.Greeting host conn) = x == host && n == conn
-is_of (OfDial o) dialler (purpose.Greeting host conn) = option_map_or (λ op. o == op) dialler false
-is_of w dialler p = false
+abbrev pub is_request_of : Whose → Option ℕ → Purpose → Bool
+is_request_of (OfCommand o) dialler (purpose.Command op) = o == op
+is_request_of (OfCheck x) dialler (purpose.Check host) = x == host
+is_request_of (OfConn x n) dialler (purpose.Greeting host conn) = x == host && n == conn
+is_request_of (OfDial o) dialler (purpose.Greeting host conn) = option_map_or (λ op. o == op) dialler false
+is_request_of w dialler p = false
 
 -- Somebody's request waits for its answer: it is the last, and nothing was said of it since it was asked.
 abbrev pub waits_as : Whose → Option ℕ → Option Request → Option Unanswered → Bool
-waits_as w dialler (Some r) None = is_of w dialler r.purpose
+waits_as w dialler (Some r) None = is_request_of w dialler r.purpose
 waits_as w dialler r how = false
 
 abbrev pub waits : Whose → Account → Bool

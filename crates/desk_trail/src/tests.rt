@@ -66,9 +66,16 @@ fn laws_are_called(rt: HostRuntime) {
     laws::places::moments_never_fall();
     laws::places::what_is_owed_comes_next();
     laws::pools::each_pool_has_its_trail();
+    laws::pools::each_command_is_where_its_pool_has_it();
+    laws::pools::no_two_commands_have_one_ticket();
+    laws::pools::no_connection_is_lent_to_two();
+    laws::pools::each_lent_connection_was_free();
     laws::sessions::sessions_have_their_history();
+    laws::sessions::a_command_draws_once();
+    laws::sessions::a_session_is_one_commands();
     laws::topology::the_topology_is_of_its_accepted_events();
     laws::topology::means_are_of_samples();
     laws::commands::each_command_has_its_history();
     laws::commands::each_answer_is_the_verdict_on_the_attempts();
+    laws::commands::behind_its_answer_no_entry_is_of_a_command();
 }

@@ -93,9 +93,11 @@ fits_first client w time op r command c selected given there chosen q =
     let is_command : s.command ≡ command = same (sym s.given ∙ given) in
     let running : s.running ≡ c = same (sym s.there ∙ there) in
     let is_selected : s.selected ≡ selected = same (sym s.chosen ∙ ap (λ (x : CommandState). x.selected) running ∙ chosen) in
-    let rest = over s.selected.server.max_message (message_size (command_document s.command client.settings.db s.extras s.cluster)) in
-    (rest, subst (λ (x : Selected). option_or (first_over x.server.max_doc (documents_of command.act)) rest ≡ None) is_selected
-    (subst (λ (x : Command). option_or (first_over s.selected.server.max_doc (documents_of x.act)) rest ≡ None) is_command q.fits))
+    let rest = over s.selected.server.max_message (message_size (command_document s.command client.settings.db s.extras s.cluster)) in (
+      rest,
+      subst (λ (x : Selected). option_or (first_over x.server.max_doc (documents_of command.act)) rest ≡ None) is_selected
+          (subst (λ (x : Command). option_or (first_over s.selected.server.max_doc (documents_of x.act)) rest ≡ None) is_command q.fits),
+    )
 
 -- what an entry of the sessions says of its command
 module _ (w : ClientState) (moment op : ℕ) (c : CommandState) where

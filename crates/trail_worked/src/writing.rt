@@ -18,6 +18,7 @@ use topo_rules::TopoEvent;
 use write_retry::{AttemptEnd, Outcome};
 
 /// What the story of one insert is written with: the seed, its reply, and the three requests.
+#[derive(Debug, Drop)]
 pub struct Told {
     /// The seed.
     pub seed: Host,

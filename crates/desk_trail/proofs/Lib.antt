@@ -13,3 +13,4 @@ mod FieldLemmas
 mod DoneLemmas
 mod LentFreeLemmas
 mod HolderLemmas
+mod DrawLemmas

@@ -14,3 +14,4 @@ mod DoneLemmas
 mod LentFreeLemmas
 mod HolderLemmas
 mod DrawLemmas
+mod GenerationLemmas

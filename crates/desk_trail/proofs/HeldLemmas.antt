@@ -127,7 +127,7 @@ settled-held lent conn number (Some x) h e c n once =
     let same : x ≡ h = cc in
     held-new lent x conn number once (ap (λ (y : Held). y.conn) same ∙ c) (ap (λ (y : Held). y.ticket) same ∙ sym n)
 
-held-conn : (hs : List Held) (conn : ℕ) (h : Held) → held_of conn hs ≡ Some h → h.conn ≡ conn
+pub held-conn : (hs : List Held) (conn : ℕ) (h : Held) → held_of conn hs ≡ Some h → h.conn ≡ conn
 held-conn hs conn h e = eqb-true h.conn conn (find-passes (λ x. x.conn == conn) hs h e)
 
 ok-owes : (p : Pool) (moment : ℕ) (e : PoolEntry) → MayStand p moment e → IsOnce (after p moment e) → AllOk (after p moment e) (owes p e)

@@ -50,11 +50,11 @@ Apart-sess = record { outs = λ c h. refl; asks = λ c m. refl; looks = look_by-
 
 -- ---- Sessions that are out
 
-set-same : (made : List Session) (place : ℕ) (f : Session → Session) (o : Option Session) → slice_get made place ≡ o → slice_get (set_at made place o f) place ≡ option_map f o
+pub set-same : (made : List Session) (place : ℕ) (f : Session → Session) (o : Option Session) → slice_get made place ≡ o → slice_get (set_at made place o f) place ≡ option_map f o
 set-same made place f None h = h
 set-same made place f (Some x) h = slice_get-set_same made place (f x) x h
 
-set-other : (made : List Session) (place i : ℕ) (f : Session → Session) (o : Option Session) → (place ≡ i → ⊥) → slice_get (set_at made place o f) i ≡ slice_get made i
+pub set-other : (made : List Session) (place i : ℕ) (f : Session → Session) (o : Option Session) → (place ≡ i → ⊥) → slice_get (set_at made place o f) i ≡ slice_get made i
 set-other made place i f None n = refl
 set-other made place i f (Some x) n = slice_get-set_other made place i (f x) n
 
@@ -77,16 +77,16 @@ out-kept made place i f n h = elim (eqb_tells place i) [
   | inr w ↦ out-other made place i f w.1 h
 ]
 
-slice_get-front : {A : Type 0} (xs ys : List A) (i : ℕ) (x : A) → slice_get xs i ≡ Some x → slice_get (xs ++ ys) i ≡ Some x
+pub slice_get-front : {A : Type 0} (xs ys : List A) (i : ℕ) (x : A) → slice_get xs i ≡ Some x → slice_get (xs ++ ys) i ≡ Some x
 slice_get-front [] ys i x e = absurd (cc)
 slice_get-front (z ∷ zs) ys zero x e = e
 slice_get-front (z ∷ zs) ys (suc i) x e = slice_get-front zs ys i x e
 
-slice_get-last : {A : Type 0} (xs : List A) (y : A) → slice_get (xs ++ y ∷ []) (length xs) ≡ Some y
+pub slice_get-last : {A : Type 0} (xs : List A) (y : A) → slice_get (xs ++ y ∷ []) (length xs) ≡ Some y
 slice_get-last [] y = refl
 slice_get-last (x ∷ xs) y = slice_get-last xs y
 
-take-front : {A : Type 0} (xs ys : List A) → take (length xs) (xs ++ ys) ≡ xs
+pub take-front : {A : Type 0} (xs ys : List A) → take (length xs) (xs ++ ys) ≡ xs
 take-front [] ys = refl
 take-front (x ∷ xs) ys = ap (λ zs. x ∷ zs) (take-front xs ys)
 
@@ -97,7 +97,7 @@ by-leads : (moment : ℕ) (s t : Sessions) (o : Option SessEntry) → nothing_ow
 by-leads moment s t None e = ap (λ (p : Place Sessions SessEntry). p.state) e
 by-leads moment s t (Some x) e = ap (λ (p : Place Sessions SessEntry). p.state) e
 
-sessions-after : (client : Client) (p : Point) (t : Timed Fact) → StandsAt client p t →
+pub sessions-after : (client : Client) (p : Point) (t : Timed Fact) → StandsAt client p t →
     (point_after client p t).state.sessions ≡ sessions_by t.at (session_step p.state t.what) p.state.sessions
 sessions-after client p t s =
     by-leads t.at p.state.sessions (point_after client p t).state.sessions (session_step p.state t.what) (session-step-leads client p t s).to
@@ -232,7 +232,7 @@ own-read cs k g c there = ap (λ o. option_map sess o) (changed-same cs k g ∙ 
 other-read : (cs : List CommandState) (k op : ℕ) (g : CommandState → CommandState) → (k ≡ op → ⊥) → read sess (changed cs k g) op ≡ read sess cs op
 other-read cs k op g n = ap (λ o. option_map sess o) (changed-other cs k op g n)
 
-held-step : (w : ClientState) (k : ℕ) (f : Fact) (c : CommandState) → slice_get w.commands k ≡ Some c → session_held w k f ≡ session_step_of c f
+pub held-step : (w : ClientState) (k : ℕ) (f : Fact) (c : CommandState) → slice_get w.commands k ≡ Some c → session_held w k f ≡ session_step_of c f
 held-step w k f c there = ap (λ o. option_and_then (λ x. session_step_of x f) o) there
 
 abbrev pub Holds : ClientState → Type 0

@@ -37,7 +37,7 @@ abbrev pub LentWasFree : Type 0
 LentWasFree = (rules : PoolRules) (ts : List (Timed PoolEntry)) (moment number conn : ℕ) →
     IsTrail rules (ts ++ record { at = moment; what = pool.Lent number conn } ∷ []) → IsFree (entries_of ts) conn
 
-own-entry : (host moment : ℕ) (e : PoolEntry) → of_pool host moment (Some (host, e)) ≡ record { at = moment; what = e } ∷ []
+pub own-entry : (host moment : ℕ) (e : PoolEntry) → of_pool host moment (Some (host, e)) ≡ record { at = moment; what = e } ∷ []
 own-entry host moment e = rw (eq-eqb host host refl) refl
 
 pub lent-was-free : LentWasFree → (client : Client) (ts : List (Timed Fact)) (moment op host conn : ℕ) →

@@ -13,3 +13,5 @@ mod FieldLemmas
 mod DoneLemmas
 mod LentFreeLemmas
 mod HolderLemmas
+mod DrawLemmas
+mod GenerationLemmas

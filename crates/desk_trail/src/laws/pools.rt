@@ -4,6 +4,8 @@ ghost use Rattle.entry_judge.specs.declared.timed.Timed.{Timed};
 ghost use Rattle.entry_judge.specs.Groups.{entries_of};
 ghost use Rattle.pool_book.specs.Judge.{IsTrail, place_behind};
 ghost use Rattle.pool_book.specs.Laws.{IsFree};
+ghost use Rattle.pool_book.specs.Pool.{held_of};
+ghost use Rattle.pool_book.specs.declared.connections.Held.{Held};
 ghost use Rattle.desk_trail.specs.Clients.{Client, pool_rules};
 ghost use Rattle.desk_trail.specs.Facts.{Fact};
 ghost use Rattle.desk_trail.specs.Facts as fact;
@@ -63,5 +65,18 @@ pub fn each_lent_connection_was_free()
         → AreLegal client (ts ++ record { at = moment; what = fact.Lent op host conn } ∷ [])
         → IsFree (entries_of (pool_part client host ts)) conn }
 {
+    pool_book::laws::each_lent_connection_was_free();
+}
+
+/// A connection that is lent is of the generation that its pool has behind that entry.
+pub fn each_lent_connection_is_current()
+    ensures { (client : Client) (ts : List (Timed Fact)) (moment op host conn : ℕ) (s : ServerState) (h : Held)
+        → AreLegal client (ts ++ record { at = moment; what = fact.Lent op host conn } ∷ [])
+        → slice_get (point_behind client (ts ++ record { at = moment; what = fact.Lent op host conn } ∷ [])).state.servers host ≡ Some s
+        → held_of conn s.pool.state.lent ≡ Some h → h.generation ≡ s.pool.state.generation }
+{
+    pool_book::laws::each_connection_stands_once();
+    pool_book::laws::each_connection_is_of_the_generation_of_its_dial();
+    pool_book::laws::the_pool_is_read_off_its_entries();
     pool_book::laws::each_lent_connection_was_free();
 }

@@ -10,6 +10,7 @@ ghost use Rattle.desk_trail.specs.Facts.{Fact};
 ghost use Rattle.desk_trail.specs.Facts as fact;
 ghost use Rattle.desk_trail.specs.Legal.{AreLegal, point_behind};
 ghost use Rattle.desk_trail.specs.Parts.{session_part};
+ghost use Rattle.desk_trail.specs.Requests.{lsid_of};
 ghost use Rattle.desk_trail.specs.States.{CommandState};
 
 /// The leases, draws and returns are a history of a client's sessions, which leads to the sessions that the client has. So each
@@ -33,4 +34,18 @@ pub fn a_session_is_one_commands()
         → x.session ≡ Some place → y.session ≡ Some place → a ≡ b }
 {
     sess_book::laws::one_holder();
+}
+
+/// Two draws are never of one session's id and one number.
+pub fn no_number_is_drawn_twice()
+    ensures { (client : Client) (xs ys : List (Timed Fact)) (first second a b : ℕ) (m n : ℤ) (x y : CommandState)
+        → AreLegal client (xs ++ record { at = first; what = fact.Drew a m } ∷ (ys ++ record { at = second; what = fact.Drew b n } ∷ []))
+        → slice_get (point_behind client xs).state.commands a ≡ Some x
+        → slice_get (point_behind client (xs ++ record { at = first; what = fact.Drew a m } ∷ ys)).state.commands b ≡ Some y
+        → lsid_of (point_behind client xs).state.sessions x.session
+        ≡ lsid_of (point_behind client (xs ++ record { at = first; what = fact.Drew a m } ∷ ys)).state.sessions y.session
+        → m ≡ n → ⊥ }
+{
+    sess_book::laws::ids_differ();
+    sess_book::laws::numbers_rise_by_one();
 }

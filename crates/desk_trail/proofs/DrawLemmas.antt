@@ -141,7 +141,7 @@ grown client xs ys moment op number d =
     let rest = told_from client session_tells (point_after client p t) ys in
     let part = session_part client xs in
     let all : session_part client (xs ++ t ∷ ys) ≡ part ++ x ∷ rest =
-        told_from-both client session_tells (beginning client) xs (t ∷ ys) ∙ ap (λ zs. part ++ (zs ++ rest)) d.tells in
+    told_from-both client session_tells (beginning client) xs (t ∷ ys) ∙ ap (λ zs. part ++ (zs ++ rest)) d.tells in
     let more = draws-more d.place part (x ∷ rest) in
     let own = draws-own moment d.place number rest in
     subst (λ zs. draws d.place (entries_of part) + 1 ≤ draws d.place (entries_of zs)) (sym all) (omega arith)
@@ -180,28 +180,28 @@ pair-once ids numbers client xs ys first second a b m n x y l i j same is =
     let zs = xs ++ t ∷ ys in
     let all : AreLegal client (zs ++ u ∷ []) = subst (AreLegal client) (sym (append_assoc xs (t ∷ ys) (u ∷ []))) l in
     let one : AreLegal client (xs ++ t ∷ []) = Legal-front (StandsAt client) (point_after client) (beginning client) (xs ++ t ∷ []) (ys ++ u ∷ [])
-        (subst (AreLegal client) (sym (append_assoc xs (t ∷ []) (ys ++ u ∷ []))) l) in
+    (subst (AreLegal client) (sym (append_assoc xs (t ∷ []) (ys ++ u ∷ []))) l) in
     let front : AreLegal client zs = Legal-front (StandsAt client) (point_after client) (beginning client) zs (u ∷ []) all in
     let d = draw-of client xs first a m (last-stands client (beginning client) xs t one) in
     let e = draw-of client zs second b n (last-stands client (beginning client) zs u all) in
     let w = (point_behind client xs).state in
     let v = (point_behind client zs).state in
     let own : lsid_of w.sessions x.session ≡ Some d.one.lsid =
-        ap (λ (c : CommandState). lsid_of w.sessions c.session) (same-command w.commands a x d.running i d.there) ∙ lsid-read w d.running d.place d.one d.has d.stands in
+    ap (λ (c : CommandState). lsid_of w.sessions c.session) (same-command w.commands a x d.running i d.there) ∙ lsid-read w d.running d.place d.one d.has d.stands in
     let its : lsid_of v.sessions y.session ≡ Some e.one.lsid =
-        ap (λ (c : CommandState). lsid_of v.sessions c.session) (same-command v.commands b y e.running j e.there) ∙ lsid-read v e.running e.place e.one e.has e.stands in
+    ap (λ (c : CommandState). lsid_of v.sessions c.session) (same-command v.commands b y e.running j e.there) ∙ lsid-read v e.running e.place e.one e.has e.stands in
     let lsid : d.one.lsid ≡ e.one.lsid = cc in
     let to : point_behind client zs ≡ state_after (point_after client) (point_behind client xs) (t ∷ ys) = state_after-append (point_after client) (beginning client) xs (t ∷ ys) in
     let rest = Legal-rest (StandsAt client) (point_after client) (beginning client) xs (t ∷ ys) front in
     let later : id_in (slice_get v.sessions.made d.place) ≡ Some d.one.lsid =
-        subst (λ (q : Point). id_in (slice_get q.state.sessions.made d.place) ≡ Some d.one.lsid) (sym to)
-        (id-along client (point_behind client xs) (t ∷ ys) d.place d.one.lsid rest (ap id_in d.stands)) in
+    subst (λ (q : Point). id_in (slice_get q.state.sessions.made d.place) ≡ Some d.one.lsid) (sym to)
+    (id-along client (point_behind client xs) (t ∷ ys) d.place d.one.lsid rest (ap id_in d.stands)) in
     let f = found-id (slice_get v.sessions.made d.place) d.one.lsid later in
     let s = session-leads client zs front in
     let apart : IdsDiffer v.sessions.made = subst (λ (q : Place Sessions SessEntry). IdsDiffer q.state.made) (sym s.to) (ids (session_part client zs) s.legal) in
     let place : d.place ≡ e.place = apart d.place e.place f.0 e.one f.1 e.stands (f.2 ∙ lsid) in
     let first_is = number-is numbers client xs first a m one d in
     let second_is : n ≡ pos (draws d.place (entries_of (session_part client zs)) + 1) =
-        number-is numbers client zs second b n all e ∙ ap (λ k. pos (draws k (entries_of (session_part client zs)) + 1)) (sym place) in
+    number-is numbers client zs second b n all e ∙ ap (λ k. pos (draws k (entries_of (session_part client zs)) + 1)) (sym place) in
     no-number (draws d.place (entries_of (session_part client xs))) (draws d.place (entries_of (session_part client zs))) m n first_is second_is
     (grown client xs ys first a m d) is

@@ -70,9 +70,11 @@ fn laws_are_called(rt: HostRuntime) {
     laws::pools::no_two_commands_have_one_ticket();
     laws::pools::no_connection_is_lent_to_two();
     laws::pools::each_lent_connection_was_free();
+    laws::pools::each_lent_connection_is_current();
     laws::sessions::sessions_have_their_history();
     laws::sessions::a_command_draws_once();
     laws::sessions::a_session_is_one_commands();
+    laws::sessions::no_number_is_drawn_twice();
     laws::topology::the_topology_is_of_its_accepted_events();
     laws::topology::means_are_of_samples();
     laws::commands::each_command_has_its_history();

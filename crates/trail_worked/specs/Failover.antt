@@ -8,7 +8,7 @@ use Rattle.conn_uri.specs.Configurations.{plain_configuration}
 use Rattle.entry_judge.specs.declared.timed.Timed.{Timed}
 use Rattle.desk_trail.specs.Clients.{Client}
 use Rattle.desk_trail.specs.Facts.{Fact}
-use Rattle.trail_worked.specs.Words.{at, host, client_with, an_insert, check_hello, next_hello, greeting, request, wrote_one}
+use Rattle.trail_worked.specs.Words.{at, host, client_with, an_insert, check_hello, next_hello, greeting, command_request, wrote_one}
 use Rattle.hello_reply.specs.declared.server_kind.ServerKind.TheVariants as kind
 use Rattle.topo_rules.specs.declared.event.TopoEvent.TheVariants as event
 use Rattle.pool_book.specs.declared.answers.CloseReason.TheVariants as reason
@@ -64,7 +64,7 @@ failover =
     ∷ at 300 (fact.Asked 2 (greeting 0 1 3 (pos 3)))  -- 17: which says hello
     ∷ at 400 (fact.Settled 0 0 1 false)  -- 18: the hello is answered
     ∷ at 400 (fact.Lent 0 0 1)  -- 19: it has the connection
-    ∷ at 400 (fact.Asked 3 (request 0 3 (pos 4) (numbered_bytes (pos 4) (pos 1))))  -- 20: and goes out
+    ∷ at 400 (fact.Asked 3 (command_request 0 3 (pos 4) (numbered_bytes (pos 4) (pos 1))))  -- 20: and goes out
     ∷ at 500 (fact.Ended 0 attempt.Cut)  -- 21: the primary ends the stream
     ∷ at 500 (fact.Offered 2 (event.Broken first (Some 0)) (offered.Accepted true))  -- 22: so it is unknown, and there is no primary
     ∷ at 500 (fact.PoolClear 0)  -- 23: its pool is cleared
@@ -81,7 +81,7 @@ failover =
     ∷ at 500400 (fact.Asked 5 (greeting 1 1 4 (pos 6)))  -- 34: which says hello
     ∷ at 500500 (fact.Settled 0 1 1 false)  -- 35: the hello is answered
     ∷ at 500500 (fact.Lent 0 1 1)  -- 36: it has the connection
-    ∷ at 500500 (fact.Asked 6 (request 0 4 (pos 7) (numbered_bytes (pos 7) (pos 1))))  -- 37: and goes out again, with the same number
+    ∷ at 500500 (fact.Asked 6 (command_request 0 4 (pos 7) (numbered_bytes (pos 7) (pos 1))))  -- 37: and goes out again, with the same number
     ∷ at 500600 (fact.Ended 0 (attempt.Replied wrote_one))  -- 38: it was done
     ∷ at 500600 (fact.CheckedIn 0 1 1 false)  -- 39: it gives the connection back
     ∷ at 500600 (fact.Finished 0 (outcome.Ok (pos 1) (pos 0)))  -- 40: and is answered

@@ -5,7 +5,7 @@ use Rattle.conn_uri.specs.Configurations.{plain_configuration}
 use Rattle.entry_judge.specs.declared.timed.Timed.{Timed}
 use Rattle.desk_trail.specs.Clients.{Client}
 use Rattle.desk_trail.specs.Facts.{Fact}
-use Rattle.trail_worked.specs.Words.{at, client_with, an_insert, check_hello, greeting, request, wrote_one}
+use Rattle.trail_worked.specs.Words.{at, client_with, an_insert, check_hello, greeting, command_request, wrote_one}
 use Rattle.topo_rules.specs.declared.event.TopoEvent.TheVariants as event
 use Rattle.write_retry.specs.declared.attempt_end.AttemptEnd.TheVariants as attempt
 use Rattle.write_retry.specs.declared.outcome.Outcome.TheVariants as outcome
@@ -37,12 +37,12 @@ handed_on =
     ∷ at 260 (fact.Entered 2 0 2)  -- 13: behind the second
     ∷ at 300 (fact.Settled 0 0 1 false)  -- 14: the hello is answered
     ∷ at 300 (fact.Lent 0 0 1)  -- 15: the first insert has the connection
-    ∷ at 300 (fact.Asked 2 (request 0 2 (pos 3) (insert_bytes (pos 3))))  -- 16: and goes out
+    ∷ at 300 (fact.Asked 2 (command_request 0 2 (pos 3) (insert_bytes (pos 3))))  -- 16: and goes out
     ∷ at 400 (fact.Ended 0 (attempt.Replied wrote_one))  -- 17: it was done
     ∷ at 400 (fact.CheckedIn 0 0 1 false)  -- 18: and gives the connection back
     ∷ at 400 (fact.Finished 0 (outcome.Ok (pos 1) (pos 0)))  -- 19: it is answered
     ∷ at 410 (fact.Lent 1 0 1)  -- 20: the second insert has the same connection
-    ∷ at 410 (fact.Asked 3 (request 1 2 (pos 4) (insert_bytes (pos 4))))  -- 21: and goes out on the same stream
+    ∷ at 410 (fact.Asked 3 (command_request 1 2 (pos 4) (insert_bytes (pos 4))))  -- 21: and goes out on the same stream
     ∷ at 500 (fact.Ended 1 (attempt.Replied wrote_one))  -- 22: it was done
     ∷ at 500 (fact.CheckedIn 1 0 1 false)  -- 23: and gives the connection back
     ∷ at 500 (fact.Finished 1 (outcome.Ok (pos 1) (pos 0)))  -- 24: it is answered; the third one waits still

@@ -4,7 +4,7 @@ use Rattle.std.specs.Prelude.{pos, true, false, List, [], ◌∷◌, Some}
 use Rattle.hello_reply.specs.declared.server_description.ServerDescription.{ServerDescription}
 use Rattle.entry_judge.specs.declared.timed.Timed.{Timed}
 use Rattle.desk_trail.specs.Facts.{Fact}
-use Rattle.trail_worked.specs.Words.{at, host, check_hello, greeting, request, wrote_one}
+use Rattle.trail_worked.specs.Words.{at, host, check_hello, greeting, command_request, wrote_one}
 use Rattle.topo_rules.specs.declared.event.TopoEvent.TheVariants as event
 use Rattle.pool_book.specs.declared.answers.CloseReason.TheVariants as reason
 use Rattle.write_retry.specs.declared.attempt_end.AttemptEnd.TheVariants as attempt
@@ -38,7 +38,7 @@ host_dropped =
     ∷ at 300 (fact.Asked 1 (greeting 0 1 3 (pos 2)))  -- 12: which says hello
     ∷ at 400 (fact.Settled 0 0 1 false)  -- 13: the hello is answered
     ∷ at 400 (fact.Lent 0 0 1)  -- 14: it has the connection
-    ∷ at 400 (fact.Asked 2 (request 0 3 (pos 3) (numbered_bytes (pos 3) (pos 1))))  -- 15: and goes out
+    ∷ at 400 (fact.Asked 2 (command_request 0 3 (pos 3) (numbered_bytes (pos 3) (pos 1))))  -- 15: and goes out
     ∷ at 500 (fact.CheckBegan 1 2)  -- 16: the first check of the other host begins
     ∷ at 500 (fact.Asked 3 (check_hello 1 2 (pos 4)))  -- 17: with a hello
     ∷ at 600 (fact.CheckEnded 1 (check.Reply 100))  -- 18: the reply comes

@@ -5,7 +5,7 @@ use Rattle.conn_uri.specs.Configurations.{plain_configuration}
 use Rattle.entry_judge.specs.declared.timed.Timed.{Timed}
 use Rattle.desk_trail.specs.Clients.{Client}
 use Rattle.desk_trail.specs.Facts.{Fact}
-use Rattle.trail_worked.specs.Words.{at, client_with, an_insert, check_hello, greeting, request, wrote_one, farewell}
+use Rattle.trail_worked.specs.Words.{at, client_with, an_insert, check_hello, greeting, command_request, wrote_one, farewell}
 use Rattle.topo_rules.specs.declared.event.TopoEvent.TheVariants as event
 use Rattle.pool_book.specs.declared.answers.CloseReason.TheVariants as reason
 use Rattle.write_retry.specs.declared.attempt_end.AttemptEnd.TheVariants as attempt
@@ -36,7 +36,7 @@ last_words =
     ∷ at 200 (fact.Asked 1 (greeting 0 1 2 (pos 2)))  -- 11: which says hello
     ∷ at 300 (fact.Settled 0 0 1 false)  -- 12: the hello is answered
     ∷ at 300 (fact.Lent 0 0 1)  -- 13: it has the connection
-    ∷ at 300 (fact.Asked 2 (request 0 2 (pos 3) (numbered_bytes (pos 3) (pos 1))))  -- 14: and goes out
+    ∷ at 300 (fact.Asked 2 (command_request 0 2 (pos 3) (numbered_bytes (pos 3) (pos 1))))  -- 14: and goes out
     ∷ at 400 (fact.Ended 0 (attempt.Replied wrote_one))  -- 15: it was done
     ∷ at 400 (fact.CheckedIn 0 0 1 false)  -- 16: and gives the connection back
     ∷ at 400 (fact.Finished 0 (outcome.Ok (pos 1) (pos 0)))  -- 17: it is answered

@@ -9,7 +9,7 @@ use Rattle.conn_uri.specs.Configurations.{plain_configuration}
 use Rattle.entry_judge.specs.declared.timed.Timed.{Timed}
 use Rattle.desk_trail.specs.Clients.{Client}
 use Rattle.desk_trail.specs.Facts.{Fact}
-use Rattle.trail_worked.specs.Words.{at, host, client_with, an_insert, check_hello, greeting, request, command_bytes, wrote_one}
+use Rattle.trail_worked.specs.Words.{at, host, client_with, an_insert, check_hello, greeting, command_request, command_bytes, wrote_one}
 use Rattle.hello_reply.specs.declared.server_kind.ServerKind.TheVariants as kind
 use Rattle.topo_rules.specs.declared.event.TopoEvent.TheVariants as event
 use Rattle.write_retry.specs.declared.attempt_end.AttemptEnd.TheVariants as attempt
@@ -59,7 +59,7 @@ leased_again =
     ∷ at 200 (fact.Asked 1 (greeting 0 1 2 (pos 2)))  -- 11: which says hello
     ∷ at 300 (fact.Settled 0 0 1 false)  -- 12: the hello is answered
     ∷ at 300 (fact.Lent 0 0 1)  -- 13: it has the connection
-    ∷ at 300 (fact.Asked 2 (request 0 2 (pos 3) (numbered_bytes (pos 3) (pos 1))))  -- 14: and goes out with the session and the number
+    ∷ at 300 (fact.Asked 2 (command_request 0 2 (pos 3) (numbered_bytes (pos 3) (pos 1))))  -- 14: and goes out with the session and the number
     ∷ at 400 (fact.Ended 0 (attempt.Replied wrote_one))  -- 15: it was done
     ∷ at 400 (fact.CheckedIn 0 0 1 false)  -- 16: and gives the connection back
     ∷ at 400 (fact.Finished 0 (outcome.Ok (pos 1) (pos 0)))  -- 17: it is answered
@@ -69,7 +69,7 @@ leased_again =
     ∷ at 500 (fact.Drew 1 (pos 2))  -- 21: and draws the next number
     ∷ at 500 (fact.Entered 1 0 1)  -- 22: it asks the pool for a connection
     ∷ at 500 (fact.Lent 1 0 1)  -- 23: and gets the one that was given back
-    ∷ at 500 (fact.Asked 3 (request 1 2 (pos 4) (numbered_bytes (pos 4) (pos 2))))  -- 24: it goes out
+    ∷ at 500 (fact.Asked 3 (command_request 1 2 (pos 4) (numbered_bytes (pos 4) (pos 2))))  -- 24: it goes out
     ∷ at 600 (fact.Ended 1 (attempt.Replied wrote_one))  -- 25: it was done
     ∷ at 600 (fact.CheckedIn 1 0 1 false)  -- 26: and gives the connection back
     ∷ at 600 (fact.Finished 1 (outcome.Ok (pos 1) (pos 0)))  -- 27: it is answered

@@ -8,7 +8,7 @@ use Rattle.entry_judge.specs.declared.timed.Timed.{Timed}
 use Rattle.desk_trail.specs.declared.step.Step.{Step}
 use Rattle.desk_trail.specs.Clients.{Client}
 use Rattle.desk_trail.specs.Facts.{Fact, Lists}
-use Rattle.trail_worked.specs.Words.{at, host, client_with, an_insert, check_hello, greeting, request, command_bytes, wrote_one}
+use Rattle.trail_worked.specs.Words.{at, host, client_with, an_insert, check_hello, greeting, command_request, command_bytes, wrote_one}
 use Rattle.hello_reply.specs.declared.server_kind.ServerKind.TheVariants as kind
 use Rattle.topo_rules.specs.declared.event.TopoEvent.TheVariants as event
 use Rattle.write_retry.specs.declared.attempt_end.AttemptEnd.TheVariants as attempt
@@ -49,7 +49,7 @@ one_insert =
     ∷ at 200 (fact.Asked 1 (greeting 0 1 2 (pos 2)))  -- 9: which says hello
     ∷ at 300 (fact.Settled 0 0 1 false)  -- 10: the hello is answered
     ∷ at 300 (fact.Lent 0 0 1)  -- 11: so the connection is checked out
-    ∷ at 300 (fact.Asked 2 (request 0 2 (pos 3) (insert_bytes (pos 3))))  -- 12: the insert goes out
+    ∷ at 300 (fact.Asked 2 (command_request 0 2 (pos 3) (insert_bytes (pos 3))))  -- 12: the insert goes out
     ∷ at 400 (fact.Ended 0 (attempt.Replied wrote_one))  -- 13: one document was written
     ∷ at 400 (fact.CheckedIn 0 0 1 false)  -- 14: the connection is checked in
     ∷ at 400 (fact.Finished 0 (outcome.Ok (pos 1) (pos 0)))  -- 15: and the insert is answered
@@ -61,7 +61,7 @@ lists = record {
   names = alone ∷ [];
   events = event.Reply standalone 100 ∷ [];
   sessions = [];
-  requests = check_hello 0 1 (pos 1) ∷ greeting 0 1 2 (pos 2) ∷ request 0 2 (pos 3) (insert_bytes (pos 3)) ∷ [];
+  requests = check_hello 0 1 (pos 1) ∷ greeting 0 1 2 (pos 2) ∷ command_request 0 2 (pos 3) (insert_bytes (pos 3)) ∷ [];
 }
 
 abbrev pub steps : List Step

@@ -6,7 +6,7 @@ use Rattle.conn_uri.specs.Configurations.{plain_configuration}
 use Rattle.entry_judge.specs.declared.timed.Timed.{Timed}
 use Rattle.desk_trail.specs.Clients.{Client}
 use Rattle.desk_trail.specs.Facts.{Fact}
-use Rattle.trail_worked.specs.Words.{at, client_with, an_insert, check_hello, next_hello, greeting, request, wrote_one}
+use Rattle.trail_worked.specs.Words.{at, client_with, an_insert, check_hello, next_hello, greeting, command_request, wrote_one}
 use Rattle.topo_rules.specs.declared.event.TopoEvent.TheVariants as event
 use Rattle.pool_book.specs.declared.answers.CloseReason.TheVariants as reason
 use Rattle.write_retry.specs.declared.attempt_end.AttemptEnd.TheVariants as attempt
@@ -37,7 +37,7 @@ pool_cleared =
     ∷ at 200 (fact.Asked 1 (greeting 0 1 2 (pos 2)))  -- 9: which says hello
     ∷ at 300 (fact.Settled 0 0 1 false)  -- 10: the hello is answered
     ∷ at 300 (fact.Lent 0 0 1)  -- 11: the first insert has the connection
-    ∷ at 300 (fact.Asked 2 (request 0 2 (pos 3) (insert_bytes (pos 3))))  -- 12: and goes out
+    ∷ at 300 (fact.Asked 2 (command_request 0 2 (pos 3) (insert_bytes (pos 3))))  -- 12: and goes out
     ∷ at 400 (fact.Looked 1 7 8 (0 ∷ []) (looked.Chosen 0))  -- 13: the second insert chooses the server
     ∷ at 400 (fact.Entered 1 0 1)  -- 14: and asks the pool for a connection
     ∷ at 400 (fact.Dialled 1 0 2 (Some 3))  -- 15: it dials another one

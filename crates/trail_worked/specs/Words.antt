@@ -68,9 +68,9 @@ greeting server conn stream id = record { stream = stream; id = id; purpose = pu
 abbrev pub next_hello : (server stream : ℕ) → ℤ → Request
 next_hello server stream id = record { stream = stream; id = id; purpose = purpose.Check server; bytes = later_hello id }
 
--- A command's request, of these bytes.
-abbrev pub request : (op stream : ℕ) → ℤ → List ℕ → Request
-request op stream id bytes = record { stream = stream; id = id; purpose = purpose.Command op; bytes = bytes }
+-- A command's command_request, of these bytes.
+abbrev pub command_request : (op stream : ℕ) → ℤ → List ℕ → Request
+command_request op stream id bytes = record { stream = stream; id = id; purpose = purpose.Command op; bytes = bytes }
 
 -- The farewell that ends the sessions of these ids.
 abbrev pub farewell : (stream : ℕ) → ℤ → List Lsid → Request

@@ -1,7 +1,7 @@
 //! Stories of commands: from a look for a server to the answer.
 ghost use Rattle.std.specs.Prelude.{pos, true, false, [], ◌∷◌, Some};
 ghost use Rattle.desk_trail.specs.Legal.{AreLegal, IsLegal, IsComplete};
-ghost use Rattle.trail_worked.specs.Words.{at, instead, put_in, left_out, request, AreComplete};
+ghost use Rattle.trail_worked.specs.Words.{at, instead, put_in, left_out, command_request, AreComplete};
 ghost use Rattle.topo_rules.specs.declared.event.TopoEvent.TheVariants as event;
 ghost use Rattle.write_retry.specs.declared.outcome.Outcome.TheVariants as outcome;
 ghost use Rattle.desk_trail.specs.declared.entry.LookedHow.TheVariants as looked;
@@ -23,7 +23,7 @@ pub fn one_insert_with_its_check()
     ensures an_event_offered_twice { AreLegal client_of_one (put_in one_insert 6 (at 100 (fact.Offered 1 (event.Reply standalone 100) (offered.Accepted false)))) → ⊥ }
     ensures a_pool_that_is_not_made_ready { AreLegal client_of_one (left_out one_insert 5) → ⊥ }
     ensures lent_ahead_of_the_greeting { AreLegal client_of_one (instead one_insert 10 (at 300 (fact.Lent 0 0 1))) → ⊥ }
-    ensures sent_on_the_stream_of_the_check { AreLegal client_of_one (instead one_insert 12 (at 300 (fact.Asked 2 (request 0 1 (pos 3) (insert_bytes (pos 3)))))) → ⊥ }
+    ensures sent_on_the_stream_of_the_check { AreLegal client_of_one (instead one_insert 12 (at 300 (fact.Asked 2 (command_request 0 1 (pos 3) (insert_bytes (pos 3)))))) → ⊥ }
     ensures checked_in_as_errored { AreLegal client_of_one (instead one_insert 14 (at 400 (fact.CheckedIn 0 0 1 true))) → ⊥ }
     ensures finished_with_another_outcome { AreLegal client_of_one (instead one_insert 15 (at 400 (fact.Finished 0 (outcome.Ok (pos 0) (pos 0))))) → ⊥ }
 {}
@@ -35,7 +35,7 @@ pub fn a_connection_is_handed_on()
     ensures lent_to_the_second_in_line { AreLegal client_of_three (instead handed_on 20 (at 410 (fact.Lent 2 0 1))) → ⊥ }
     ensures lent_while_another_has_it { AreLegal client_of_three (instead handed_on 17 (at 400 (fact.Lent 1 0 1))) → ⊥ }
     ensures one_more_connection_than_the_pool_may_have { AreLegal client_of_three (put_in handed_on 14 (at 300 (fact.Dialled 1 0 2 (Some 3)))) → ⊥ }
-    ensures sent_while_it_waits { AreLegal client_of_three (instead handed_on 20 (at 410 (fact.Asked 3 (request 1 2 (pos 4) (insert_bytes (pos 4)))))) → ⊥ }
+    ensures sent_while_it_waits { AreLegal client_of_three (instead handed_on 20 (at 410 (fact.Asked 3 (command_request 1 2 (pos 4) (insert_bytes (pos 4)))))) → ⊥ }
     ensures answered_with_the_connection_in_hand { AreLegal client_of_three (left_out handed_on 18) → ⊥ }
 {}
 
@@ -67,7 +67,7 @@ pub fn a_failover_with_a_retry()
 pub fn a_command_is_too_large()
     ensures legal { AreLegal client_of_one too_large }
     ensures complete { AreComplete client_of_one too_large }
-    ensures sent_all_the_same { AreLegal client_of_one (instead too_large 12 (at 300 (fact.Asked 2 (request 0 2 (pos 3) (insert_bytes (pos 3)))))) → ⊥ }
+    ensures sent_all_the_same { AreLegal client_of_one (instead too_large 12 (at 300 (fact.Asked 2 (command_request 0 2 (pos 3) (insert_bytes (pos 3)))))) → ⊥ }
     ensures its_connection_as_errored { AreLegal client_of_one (instead too_large 13 (at 300 (fact.CheckedIn 0 0 1 true))) → ⊥ }
     ensures tried_again { AreLegal client_of_one (instead too_large 14 (at 300 (fact.Looked 0 7 8 (0 ∷ []) (looked.Chosen 0)))) → ⊥ }
     ensures its_connection_not_given_back { AreLegal client_of_one (left_out too_large 13) → ⊥ }

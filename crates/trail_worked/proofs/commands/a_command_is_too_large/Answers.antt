@@ -1,5 +1,5 @@
 use Rattle.std.proofs.Common.{pos, true, [], ◌∷◌, refl, sym, is_some}
-use Rattle.trail_worked.specs.Words.{at, instead, left_out, request}
+use Rattle.trail_worked.specs.Words.{at, instead, left_out, command_request}
 use Rattle.trail_worked.proofs.Rules.{legal, paid, refused}
 use Rattle.trail_worked.proofs.Where.{known, fits_first, clash, clash_bool, is_select}
 use Rattle.desk_trail.specs.declared.entry.LookedHow.TheVariants as looked
@@ -16,7 +16,7 @@ pub returns-clause-complete : goal.returns-clause-complete
 returns-clause-complete c = paid client_of_one too_large refl
 
 pub returns-clause-sent_all_the_same : goal.returns-clause-sent_all_the_same
-returns-clause-sent_all_the_same c = refused client_of_one (instead too_large 12 (at 300 (fact.Asked 2 (request 0 2 (pos 3) (insert_bytes (pos 3)))))) 12 _ refl (λ s. let f = fits_first client_of_one _ _ 0 _ _ _ _ refl refl refl s.rule.is_for in clash f.1 is_some refl refl)
+returns-clause-sent_all_the_same c = refused client_of_one (instead too_large 12 (at 300 (fact.Asked 2 (command_request 0 2 (pos 3) (insert_bytes (pos 3)))))) 12 _ refl (λ s. let f = fits_first client_of_one _ _ 0 _ _ _ _ refl refl refl s.rule.is_for in clash f.1 is_some refl refl)
 
 pub returns-clause-its_connection_as_errored : goal.returns-clause-its_connection_as_errored
 returns-clause-its_connection_as_errored c = refused client_of_one (instead too_large 13 (at 300 (fact.CheckedIn 0 0 1 true))) 13 _ refl (λ s. clash_bool s.turn.1)

@@ -1,5 +1,5 @@
 use Rattle.std.proofs.Common.{pos, Some, refl, sym, is_some}
-use Rattle.trail_worked.specs.Words.{at, instead, put_in, left_out, request}
+use Rattle.trail_worked.specs.Words.{at, instead, put_in, left_out, command_request}
 use Rattle.trail_worked.proofs.Rules.{legal, paid, refused}
 use Rattle.trail_worked.proofs.Where.{known, known_both, clash, clash_bool}
 use Rattle.desk_trail.specs.Facts as fact
@@ -24,7 +24,7 @@ pub returns-clause-one_more_connection_than_the_pool_may_have : goal.returns-cla
 returns-clause-one_more_connection_than_the_pool_may_have c = refused client_of_three (put_in handed_on 14 (at 300 (fact.Dialled 1 0 2 (Some 3)))) 14 _ refl (λ s. clash_bool (sym (known s.rule.1 refl).4))
 
 pub returns-clause-sent_while_it_waits : goal.returns-clause-sent_while_it_waits
-returns-clause-sent_while_it_waits c = refused client_of_three (instead handed_on 20 (at 410 (fact.Asked 3 (request 1 2 (pos 4) (insert_bytes (pos 4)))))) 20 _ refl (λ s. clash_bool (sym (known s.command refl)))
+returns-clause-sent_while_it_waits c = refused client_of_three (instead handed_on 20 (at 410 (fact.Asked 3 (command_request 1 2 (pos 4) (insert_bytes (pos 4)))))) 20 _ refl (λ s. clash_bool (sym (known s.command refl)))
 
 pub returns-clause-answered_with_the_connection_in_hand : goal.returns-clause-answered_with_the_connection_in_hand
 returns-clause-answered_with_the_connection_in_hand c = refused client_of_three (left_out handed_on 18) 18 _ refl (λ s. s.turn)

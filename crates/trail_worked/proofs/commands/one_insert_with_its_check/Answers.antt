@@ -1,5 +1,5 @@
 use Rattle.std.proofs.Common.{pos, true, false, refl}
-use Rattle.trail_worked.specs.Words.{at, instead, put_in, left_out, request}
+use Rattle.trail_worked.specs.Words.{at, instead, put_in, left_out, command_request}
 use Rattle.trail_worked.proofs.Rules.{legal, paid, refused}
 use Rattle.trail_worked.proofs.Where.{known, stream_sent}
 use Rattle.topo_rules.specs.declared.event.TopoEvent.TheVariants as event
@@ -35,7 +35,7 @@ pub returns-clause-lent_ahead_of_the_greeting : goal.returns-clause-lent_ahead_o
 returns-clause-lent_ahead_of_the_greeting c = refused client_of_one (instead one_insert 10 (at 300 (fact.Lent 0 0 1))) 10 _ refl (λ s. let e = (known s.rule refl).1 in absurd (cc))
 
 pub returns-clause-sent_on_the_stream_of_the_check : goal.returns-clause-sent_on_the_stream_of_the_check
-returns-clause-sent_on_the_stream_of_the_check c = refused client_of_one (instead one_insert 12 (at 300 (fact.Asked 2 (request 0 1 (pos 3) (insert_bytes (pos 3)))))) 12 _ refl (λ s. let e = stream_sent client_of_one _ _ 0 _ _ 0 0 1 _ refl refl refl s.rule.is_for in absurd (cc))
+returns-clause-sent_on_the_stream_of_the_check c = refused client_of_one (instead one_insert 12 (at 300 (fact.Asked 2 (command_request 0 1 (pos 3) (insert_bytes (pos 3)))))) 12 _ refl (λ s. let e = stream_sent client_of_one _ _ 0 _ _ 0 0 1 _ refl refl refl s.rule.is_for in absurd (cc))
 
 pub returns-clause-checked_in_as_errored : goal.returns-clause-checked_in_as_errored
 returns-clause-checked_in_as_errored c = refused client_of_one (instead one_insert 14 (at 400 (fact.CheckedIn 0 0 1 true))) 14 _ refl (λ s. let e = s.turn.1 in absurd (cc))

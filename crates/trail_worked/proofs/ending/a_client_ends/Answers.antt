@@ -1,5 +1,5 @@
 use Rattle.std.proofs.Common.{pos, [], ◌∷◌, refl}
-use Rattle.trail_worked.specs.Words.{at, instead, put_in, request, farewell}
+use Rattle.trail_worked.specs.Words.{at, instead, put_in, command_request, farewell}
 use Rattle.trail_worked.proofs.Rules.{legal, paid, refused}
 use Rattle.trail_worked.proofs.Where.{known, clash, clash_bool, shuts_as_stale}
 use Rattle.trail_worked.proofs.Farewells.{from_nowhere, is_command}
@@ -21,7 +21,7 @@ pub returns-clause-a_look_behind_the_farewell : goal.returns-clause-a_look_behin
 returns-clause-a_look_behind_the_farewell c = refused client_of_router (put_in last_words 20 (at 500 (fact.Looked 0 7 8 (0 ∷ []) (looked.Chosen 0)))) 20 _ refl (λ s. s.going)
 
 pub returns-clause-a_command_behind_the_farewell : goal.returns-clause-a_command_behind_the_farewell
-returns-clause-a_command_behind_the_farewell c = refused client_of_router (put_in last_words 20 (at 500 (fact.Asked 4 (request 0 2 (pos 5) (numbered_bytes (pos 5) (pos 2)))))) 20 _ refl (λ s. clash s.going is_command refl refl)
+returns-clause-a_command_behind_the_farewell c = refused client_of_router (put_in last_words 20 (at 500 (fact.Asked 4 (command_request 0 2 (pos 5) (numbered_bytes (pos 5) (pos 2)))))) 20 _ refl (λ s. clash s.going is_command refl refl)
 
 pub returns-clause-a_second_farewell_on_the_connection : goal.returns-clause-a_second_farewell_on_the_connection
 returns-clause-a_second_farewell_on_the_connection c = refused client_of_router (put_in last_words 20 (at 500 (fact.Asked 4 (farewell 2 (pos 5) (session_id ∷ []))))) 20 _ refl (λ s. clash_bool s.rule.is_for.unused)

@@ -2,6 +2,7 @@
 use Rattle.std.proofs.Common.{◌≡◌, ℕ, Bool, true, false, not, ◌&&◌, cond, eqb, List, [], ◌∷◌, ◌++◌, Option, None, Some, refl, sym, ap, ◌∙◌, subst, ◌⊎◌, inl, inr}
 use Rattle.std.specs.Prelude.{ℤ, slice_get, is_some}
 use Rattle.std.specs.Option.{option_map, option_and_then}
+use Rattle.std.proofs.lemmas.Bool.{eq-eqb}
 use Rattle.std.proofs.lemmas.Bool.Decides.{eqb_tells}
 use Rattle.entry_judge.specs.declared.timed.Timed.{Timed}
 use Rattle.entry_judge.specs.Judge.{Legal, state_after}
@@ -225,6 +226,13 @@ no-more-behind client xs ys moment op outcome t l =
     let p = point_behind client xs in
     let m = Legal-rest (StandsAt client) (point_after client) (beginning client) xs (e ∷ (ys ++ t ∷ [])) l in
     done-from client (point_after client p e) ys t op (done-begins client p moment op outcome m.0.rule) m.1
+
+pub finished-once : (client : Client) (xs ys : List (Timed Fact)) (first second op : ℕ) (outcome other : Outcome) →
+    AreLegal client (xs ++ record { at = first; what = fact.Finished op outcome } ∷ (ys ++ record { at = second; what = fact.Finished op other } ∷ [])) → ⊥
+finished-once client xs ys first second op outcome other l =
+    let no : eqb op op ≡ false = no-more-behind client xs ys first op outcome (record { at = second; what = fact.Finished op other }) l in
+    let yes : eqb op op ≡ true = eq-eqb op op refl in
+    absurd (let wrong : true ≡ false = sym yes ∙ no in cc)
 
 -- ---- A command draws once
 

@@ -1,39 +1,31 @@
 -- Where each command is with a pool, and that the pool has it so.
-use Rattle.std.proofs.Common.{◌≡◌, ◌≤◌, ◌<◌, ℕ, ◌+◌, Bool, true, false, cond, eqb, List, [], ◌∷◌, ◌++◌, Option, None, Some, refl, sym, ap, ◌∙◌, subst, arith, ◌⊎◌, inl, inr}
-use Rattle.std.specs.Prelude.{slice_get, map, ◌==◌, ◌&&◌, if◌then◌else◌}
-use Rattle.std.specs.Option.{option_map, option_and_then}
-use Rattle.std.proofs.lemmas.Bool.{eqb-true, eq-eqb}
+use Rattle.std.proofs.Common.{◌≡◌, ◌≤◌, ◌<◌, ℕ, ◌+◌, Bool, true, false, cond, eqb, List, Option, None, Some, refl, sym, ap, ◌∙◌, subst, arith, ◌⊎◌, inl, inr}
+use Rattle.std.specs.Prelude.{slice_get}
+use Rattle.std.specs.Option.{option_map}
+use Rattle.std.proofs.lemmas.Bool.{eq-eqb}
 use Rattle.std.proofs.lemmas.Bool.Decides.{eqb_tells}
-use Rattle.std.proofs.lemmas.Option.{slice_get-map}
 use Rattle.std.proofs.lemmas.Iterator.Adapters.{option_map_id}
-use Rattle.cmd_build.specs.declared.command.Command.{Command}
-use Rattle.entry_judge.specs.declared.timed.Timed.{Timed}
 use Rattle.entry_judge.specs.Groups.{Place, Stands, next_place}
 use Rattle.pool_book.specs.Entries.{PoolEntry}
-use Rattle.pool_book.specs.Entries as pool
 use Rattle.pool_book.specs.Judge.{pool_judge}
-use Rattle.pool_book.specs.Pool.{Pool, held_of}
-use Rattle.write_retry.specs.declared.events.Unsent.{Unsent}
-use Rattle.write_retry.specs.declared.events.Unsent.TheVariants as unsent
+use Rattle.pool_book.specs.Pool.{Pool}
 use Rattle.desk_trail.specs.declared.entry.LookedHow.{LookedHow}
 use Rattle.desk_trail.specs.declared.entry.LookedHow.TheVariants as looked
 use Rattle.desk_trail.specs.declared.request.Purpose.{Purpose}
 use Rattle.desk_trail.specs.declared.request.Purpose.TheVariants as purpose
 use Rattle.desk_trail.specs.Attempts.{OfCommand, asked_by, command_step, commands_after, end_by, finished, with_event}
-use Rattle.desk_trail.specs.Checks.{kept_at, stream_taken}
+use Rattle.desk_trail.specs.Checks.{kept_at}
 use Rattle.desk_trail.specs.Clients.{Client}
 use Rattle.desk_trail.specs.Facts.{Fact}
 use Rattle.desk_trail.specs.Facts as fact
 use Rattle.desk_trail.specs.Holds.{IsHeldBy}
-use Rattle.desk_trail.specs.Legal.{MayStand, Point, StandsAt, beginning, changed_by, client_after, ends_by, point_after, pool_after}
+use Rattle.desk_trail.specs.Legal.{changed_by, client_after, pool_after}
 use Rattle.desk_trail.specs.Looks.{look_asks, look_by}
-use Rattle.desk_trail.specs.Parts.{of_pool}
-use Rattle.desk_trail.specs.Pools.{OfHost, PoolAllows, at_host, check_out_after, check_out_of, conn_streams_after, dials_by, has_by, lost_with, not_lent_with, pool_step, pools_after, ticket_dialling, ticket_having, ticket_with, waits_now}
+use Rattle.desk_trail.specs.Pools.{check_out_after, conn_streams_after, dials_by, has_by, pool_step, pools_after, ticket_with, waits_now}
 use Rattle.desk_trail.specs.Requests.{farewell_by}
-use Rattle.desk_trail.specs.States.{CheckOut, ClientState, CommandState, Dials, Has, Nothing, Waits, changed, fresh_command}
-use Rattle.desk_trail.proofs.HeldLemmas.{AllOk, IsDialling, IsOnce, IsWaiting, dialled-behind, dials-behind, entered-behind, entered-rises, gives, has-behind, lent-behind, ok-behind, pays, takes, waits-behind}
+use Rattle.desk_trail.specs.States.{CheckOut, ClientState, CommandState, Dials, Has, Nothing, Waits, changed}
+use Rattle.desk_trail.proofs.HeldLemmas.{AllOk, IsDialling, IsOnce, IsWaiting, dials-behind, entered-rises, gives, has-behind, ok-behind, pays, takes, waits-behind}
 use Rattle.desk_trail.proofs.ListLemmas.{changed-keeps, changed-other, changed-same}
-use Rattle.desk_trail.proofs.PartLemmas.{Leads}
 use Rattle.desk_trail.proofs.RestLemmas.{Beside-ends_by, Beside-farewell_by, Beside-look_asks, Beside-offered, Beside-pool, Beside-stream_taken}
 
 -- ---- Where a command is with a pool, entry by entry
@@ -306,26 +298,26 @@ matched-acting outs after q r f x moment e m h moves a =
     matched-on outs after q r x moment e a.actor m h
     (λ op host ticket t. let w = was (moved f op) (outs op) (after op) t.out (moves op) t.there in inl (ticks op host ticket w.0 w.1 (ap (ticket_with host) (sym w.2) ∙ t.has)))
     (λ op k there. let w = was (moved f op) (outs op) (after op) k (moves op) there in subst (HoldsIn r) (sym w.2) (holds op w.0 w.1)) where
-  ticks : (op host ticket : ℕ) (k : CheckOut) → outs op ≡ Some k → ticket_with host (moved f op k) ≡ Some ticket → Tick outs op host ticket
-  ticks op host ticket k there has = record {
-    out = k;
-    there = there;
-    has = elim (acts_as f op) as (λ b. ticket_with host (cond b (moved_by f k) k) ≡ Some ticket → ticket_with host k ≡ Some ticket) [
-      | true ↦ λ g. a.keeps k host ticket g
-      | false ↦ λ g. g
-    ] has;
-  }
+      ticks : (op host ticket : ℕ) (k : CheckOut) → outs op ≡ Some k → ticket_with host (moved f op k) ≡ Some ticket → Tick outs op host ticket
+      ticks op host ticket k there has = record {
+        out = k;
+        there = there;
+        has = elim (acts_as f op) as (λ b. ticket_with host (cond b (moved_by f k) k) ≡ Some ticket → ticket_with host k ≡ Some ticket) [
+          | true ↦ λ g. a.keeps k host ticket g
+          | false ↦ λ g. g
+        ] has;
+      }
 
-  holds : (op : ℕ) (k : CheckOut) → outs op ≡ Some k → HoldsIn r (moved f op k)
-  holds op k there = elim (eqb_tells a.actor op) [
-    | inl w ↦
-        let yes : acts_as f op ≡ true = a.only op ∙ w.0 in
-        let same : a.tick.out ≡ k = let s = a.tick.there in let t : outs a.actor ≡ Some k = ap outs w.1 ∙ there in cc in
-        rw yes (subst (λ y. HoldsIn r (moved_by f y)) same a.becomes)
-    | inr w ↦
-        let no : acts_as f op ≡ false = a.only op ∙ w.0 in
-        rw no (holds-on q r x moment e m k
-        (λ ticket has. a.frees ticket (λ s. w.1 (h.once a.actor op x ticket (record { out = a.tick.out; there = a.tick.there; has = a.tick.has ∙ ap (λ y. Some y) s })
-        (record { out = k; there = there; has = has }))))
-        (h.holds op k there))
-  ]
+      holds : (op : ℕ) (k : CheckOut) → outs op ≡ Some k → HoldsIn r (moved f op k)
+      holds op k there = elim (eqb_tells a.actor op) [
+        | inl w ↦
+            let yes : acts_as f op ≡ true = a.only op ∙ w.0 in
+            let same : a.tick.out ≡ k = let s = a.tick.there in let t : outs a.actor ≡ Some k = ap outs w.1 ∙ there in cc in
+            rw yes (subst (λ y. HoldsIn r (moved_by f y)) same a.becomes)
+        | inr w ↦
+            let no : acts_as f op ≡ false = a.only op ∙ w.0 in
+            rw no (holds-on q r x moment e m k
+            (λ ticket has. a.frees ticket (λ s. w.1 (h.once a.actor op x ticket (record { out = a.tick.out; there = a.tick.there; has = a.tick.has ∙ ap (λ y. Some y) s })
+            (record { out = k; there = there; has = has }))))
+            (h.holds op k there))
+      ]

@@ -1,11 +1,11 @@
 -- Behind its answer no entry is of a command, the return of its session aside; and a command draws once.
-use Rattle.std.proofs.Common.{◌≡◌, ℕ, Bool, true, false, not, ◌&&◌, cond, eqb, List, [], ◌∷◌, ◌++◌, Option, None, Some, refl, sym, ap, ◌∙◌, subst, ◌⊎◌, inl, inr}
+use Rattle.std.proofs.Common.{◌≡◌, ℕ, Bool, true, false, not, ◌&&◌, cond, eqb, List, [], ◌∷◌, ◌++◌, Option, None, Some, refl, sym, ap, ◌∙◌, subst, inl, inr}
 use Rattle.std.specs.Prelude.{ℤ, slice_get, is_some}
 use Rattle.std.specs.Option.{option_map, option_and_then}
 use Rattle.std.proofs.lemmas.Bool.{eq-eqb}
 use Rattle.std.proofs.lemmas.Bool.Decides.{eqb_tells}
 use Rattle.entry_judge.specs.declared.timed.Timed.{Timed}
-use Rattle.entry_judge.specs.Judge.{Legal, state_after}
+use Rattle.entry_judge.specs.Judge.{Legal}
 use Rattle.std.proofs.lemmas.Iterator.Adapters.{option_map_id}
 use Rattle.entry_judge.specs.LegalLaws.{Legal-rest}
 use Rattle.pool_book.specs.Entries.{PoolEntry}
@@ -17,7 +17,6 @@ use Rattle.write_retry.specs.declared.events.Next.TheVariants as next
 use Rattle.write_retry.specs.declared.events.OpEvent.{OpEvent}
 use Rattle.write_retry.specs.declared.events.Unsent.{Unsent}
 use Rattle.write_retry.specs.declared.events.Unsent.TheVariants as unsent
-use Rattle.write_retry.specs.declared.attempt_end.AttemptEnd.{AttemptEnd}
 use Rattle.write_retry.specs.declared.outcome.Outcome.{Outcome}
 use Rattle.desk_trail.specs.declared.entry.LookedHow.{LookedHow}
 use Rattle.desk_trail.specs.declared.entry.LookedHow.TheVariants as looked
@@ -27,15 +26,15 @@ use Rattle.desk_trail.specs.Attempts.{CommandAllows, OfCommand, asked_event, com
 use Rattle.desk_trail.specs.Clients.{Client}
 use Rattle.desk_trail.specs.Facts.{Fact}
 use Rattle.desk_trail.specs.Facts as fact
-use Rattle.desk_trail.specs.Leases.{is_at_choice, needs_number}
+use Rattle.desk_trail.specs.Leases.{is_at_choice}
 use Rattle.desk_trail.specs.Legal.{AreLegal, MayStand, Point, StandsAt, beginning, changed_by, client_after, point_after, point_behind}
 use Rattle.desk_trail.specs.Looks.{look_by}
 use Rattle.desk_trail.specs.Orders.{asks_for, is_of}
-use Rattle.desk_trail.specs.Pools.{PoolAllows, at_host, not_lent_with, pool_step, ticket_dialling, ticket_having, ticket_with}
+use Rattle.desk_trail.specs.Pools.{PoolAllows, at_host, not_lent_with, ticket_dialling, ticket_having, ticket_with}
 use Rattle.desk_trail.specs.States.{CheckOut, ClientState, CommandState, Nothing, changed}
-use Rattle.desk_trail.proofs.CheckOutLemmas.{acts_as, moved, moved_by, out-step, out_at}
+use Rattle.desk_trail.proofs.CheckOutLemmas.{acts_as, moved_by, out-step, out_at}
 use Rattle.desk_trail.proofs.CommandLemmas.{changed-op, op_at, op_in}
-use Rattle.desk_trail.proofs.FieldLemmas.{Apart, event-kept, kept, plain-kept, read}
+use Rattle.desk_trail.proofs.FieldLemmas.{Apart, kept, plain-kept, read}
 use Rattle.desk_trail.proofs.ListLemmas.{changed-other, changed-same}
 
 -- ---- What an answered command is
@@ -278,10 +277,10 @@ not-again p moment op number client h m =
     let at : Some (drawn m.running) ≡ Some true = sym (ap (λ o. option_map drawn o) m.there) ∙ h in
     let has : drawn m.running ≡ true = cc in
     shut m.running.op.drew (drawn m.running) has m.needs where
-  shut : (a b : Bool) → b ≡ true → (a && not b) ≡ true → ⊥
-  shut true true e n = absurd (cc)
-  shut true false e n = absurd (cc)
-  shut false b e n = absurd (cc)
+      shut : (a b : Bool) → b ≡ true → (a && not b) ≡ true → ⊥
+      shut true true e n = absurd (cc)
+      shut true false e n = absurd (cc)
+      shut false b e n = absurd (cc)
 
 drawn-from : (client : Client) (p : Point) (ys : List (Timed Fact)) (moment op : ℕ) (number : ℤ) → read drawn p.state.commands op ≡ Some true →
     Legal (StandsAt client) (point_after client) p (ys ++ record { at = moment; what = fact.Drew op number } ∷ []) → ⊥

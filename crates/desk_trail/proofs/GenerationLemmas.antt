@@ -1,17 +1,17 @@
 -- A lent connection is of the generation that its pool has as it is lent.
-use Rattle.std.proofs.Common.{◌≡◌, ℕ, ◌+◌, Bool, true, false, cond, eqb, List, [], ◌∷◌, ◌++◌, map, Option, None, Some, refl, sym, ap, ◌∙◌, subst}
+use Rattle.std.proofs.Common.{◌≡◌, ℕ, List, [], ◌∷◌, ◌++◌, Some, refl, sym, ap, ◌∙◌, subst}
 use Rattle.std.specs.Prelude.{slice_get, All}
 use Rattle.std.specs.Bool.{◌==◌}
-use Rattle.std.specs.List.{find, position_or_len}
+use Rattle.std.specs.List.{position_or_len}
 use Rattle.std.proofs.lemmas.List.Folds.{find_at}
 use Rattle.std.proofs.lemmas.Option.{slice_get_within, get_or_from_slice_get}
 use Rattle.entry_judge.specs.declared.timed.Timed.{Timed}
 use Rattle.entry_judge.specs.Groups.{Place, entries_of}
 use Rattle.entry_judge.specs.Judge.{state_after}
 use Rattle.entry_judge.specs.LegalLaws.{state_after-append}
-use Rattle.pool_book.specs.Entries.{PoolEntry, Ready, Clear, Shut, Entered, Left, Lent, Dialled, Settled, NotLent, CheckedIn, ConnShut}
+use Rattle.pool_book.specs.Entries.{PoolEntry, Lent, NotLent, ConnShut}
 use Rattle.pool_book.specs.Judge.{IsTrail, entries_and_owed, place_behind, pool_behind}
-use Rattle.pool_book.specs.Laws.{IsFree, generation_of, none_begun}
+use Rattle.pool_book.specs.Laws.{generation_of, none_begun}
 use Rattle.pool_book.specs.Pool.{Pool, held_of}
 use Rattle.pool_book.specs.Readings.{Beginnings, dials_by, generation_by}
 use Rattle.pool_book.specs.declared.connections.Held.{Held}
@@ -19,7 +19,7 @@ use Rattle.pool_book.specs.declared.rules.PoolRules.{PoolRules}
 use Rattle.desk_trail.specs.Clients.{Client, pool_rules}
 use Rattle.desk_trail.specs.Facts.{Fact}
 use Rattle.desk_trail.specs.Facts as fact
-use Rattle.desk_trail.specs.Legal.{AreLegal, Point, beginning, point_behind}
+use Rattle.desk_trail.specs.Legal.{AreLegal, beginning, point_behind}
 use Rattle.desk_trail.specs.Parts.{of_pool, pool_part, pool_tells}
 use Rattle.desk_trail.specs.Pools.{ticket_with}
 use Rattle.desk_trail.specs.States.{ServerState}
@@ -27,7 +27,7 @@ use Rattle.desk_trail.proofs.CheckOutLemmas.{out_at}
 use Rattle.desk_trail.proofs.HeldLemmas.{AllOk, held-conn}
 use Rattle.desk_trail.proofs.LentFreeLemmas.{LentWasFree, own-entry, told_from-more}
 use Rattle.desk_trail.proofs.OrderLemmas.{last-stands}
-use Rattle.desk_trail.proofs.PoolLemmas.{pool-leads, pool-place, pool_at, pool_or}
+use Rattle.desk_trail.proofs.PoolLemmas.{pool-leads, pool-place, pool_or}
 use Rattle.desk_trail.proofs.WhereLemmas.{StandsOnce, meets, named}
 
 -- ---- What must come next of a pool clears nothing and dials nothing
@@ -84,13 +84,13 @@ current-in dial clears was rules part moment number conn h l ok found =
     let q = place_behind rules all in
     let free = was rules part moment number conn l in
     let read : state_after dials_by none_begun (entries_and_owed rules all) ≡ state_after dials_by none_begun (entries_of part) =
-        read-all dials_by none_begun part x q.owed (λ y. refl) (λ y. paid-dials q.state q.owed y ok) in
+    read-all dials_by none_begun part x q.owed (λ y. refl) (λ y. paid-dials q.state q.owed y ok) in
     let count : state_after generation_by 0 (entries_and_owed rules all) ≡ state_after generation_by 0 (entries_of part) =
-        read-all generation_by 0 part x q.owed (λ y. refl) (λ y. paid-generation q.state q.owed y ok) in
+    read-all generation_by 0 part x q.owed (λ y. refl) (λ y. paid-generation q.state q.owed y ok) in
     let own = All-held (λ (k : Held). generation_of k.conn (state_after dials_by none_begun (entries_and_owed rules all)).begun ≡ Some k.generation) q.state.lent conn h (dial rules all l) found in
     let its : generation_of conn (state_after dials_by none_begun (entries_of part)).begun ≡ Some h.generation =
-        subst (λ (d : Beginnings). generation_of conn d.begun ≡ Some h.generation) read
-        (subst (λ n. generation_of n (state_after dials_by none_begun (entries_and_owed rules all)).begun ≡ Some h.generation) (held-conn q.state.lent conn h found) own) in
+    subst (λ (d : Beginnings). generation_of conn d.begun ≡ Some h.generation) read
+    (subst (λ n. generation_of n (state_after dials_by none_begun (entries_and_owed rules all)).begun ≡ Some h.generation) (held-conn q.state.lent conn h found) own) in
     let now = free.current in
     let one : h.generation ≡ state_after generation_by 0 (entries_of part) = cc in
     one ∙ sym count ∙ clears rules all l
@@ -108,8 +108,8 @@ lent-is-current once dial clears was client ts moment op host conn s h l there f
     let x : Timed PoolEntry = record { at = moment; what = Lent n.number conn } in
     let part = pool_part client host ts in
     let parts : pool_part client host all ≡ part ++ x ∷ [] =
-        told_from-more client (pool_tells host) (beginning client) ts t
-        ∙ ap (λ xs. part ++ xs) (ap (λ o. of_pool host moment o) n.told ∙ own-entry host moment (Lent n.number conn)) in
+    told_from-more client (pool_tells host) (beginning client) ts t
+    ∙ ap (λ xs. part ++ xs) (ap (λ o. of_pool host moment o) n.told ∙ own-entry host moment (Lent n.number conn)) in
     let place : s.pool ≡ place_behind rules (part ++ x ∷ []) = pool-place client host all s l there ∙ ap (λ xs. place_behind rules xs) parts in
     let is : IsTrail rules (part ++ x ∷ []) = subst (IsTrail rules) parts (pool-leads client host all l).legal in
     let ok : AllOk s.pool.state s.pool.owed = subst (λ o. AllOk (pool_or client o).state (pool_or client o).owed) there ((meets once client all l).ok host) in

@@ -1,6 +1,6 @@
 -- Each session that is out is one command's.
-use Rattle.std.proofs.Common.{◌≡◌, ◌≤◌, ◌<◌, ℕ, zero, suc, ◌+◌, Bool, true, false, cond, eqb, List, [], ◌∷◌, ◌++◌, length, map, take, Option, None, Some, refl, sym, ap, ◌∙◌, subst, arith, ◌⊎◌, inl, inr}
-use Rattle.std.specs.Prelude.{ℤ, pos, slice_get, slice_set, is_some}
+use Rattle.std.proofs.Common.{◌≡◌, ℕ, zero, suc, Bool, true, false, List, [], ◌∷◌, ◌++◌, length, map, take, Option, None, Some, refl, sym, ap, ◌∙◌, subst, inl, inr}
+use Rattle.std.specs.Prelude.{ℤ, pos, slice_get}
 use Rattle.std.specs.Option.{option_map, option_and_then}
 use Rattle.std.proofs.lemmas.Bool.{eq-eqb}
 use Rattle.std.proofs.lemmas.Bool.Decides.{eqb_tells}
@@ -8,13 +8,12 @@ use Rattle.std.proofs.lemmas.Option.{slice_get-map}
 use Rattle.bson_doc.specs.declared.ids.Lsid.{Lsid}
 use Rattle.cmd_build.specs.declared.command.Command.{Command}
 use Rattle.entry_judge.specs.declared.timed.Timed.{Timed}
-use Rattle.entry_judge.specs.Groups.{Place, Stands, next_place, nothing_owed, place_behind}
-use Rattle.entry_judge.specs.Judge.{Legal, state_after}
+use Rattle.entry_judge.specs.Groups.{Place, next_place, nothing_owed, place_behind}
+use Rattle.entry_judge.specs.Judge.{state_after}
 use Rattle.sess_book.specs.Entries.{MayStand, SessEntry, after, sessions_judge, set_at, with_session}
 use Rattle.sess_book.specs.Entries as session
 use Rattle.sess_book.specs.Laws.{IsHeldByNobody, IsHistory, leases}
 use Rattle.sess_book.specs.Sessions.{Sessions, no_sessions}
-use Rattle.sess_book.specs.declared.session.Holding.{Holding}
 use Rattle.sess_book.specs.declared.session.Holding.TheVariants as holding
 use Rattle.sess_book.specs.declared.session.Session.{Session}
 use Rattle.desk_trail.specs.declared.entry.LookedHow.{LookedHow}
@@ -23,7 +22,7 @@ use Rattle.desk_trail.specs.Attempts.{finished}
 use Rattle.desk_trail.specs.Clients.{Client}
 use Rattle.desk_trail.specs.Facts.{Fact}
 use Rattle.desk_trail.specs.Facts as fact
-use Rattle.desk_trail.specs.Leases.{IsIdAt, IsLease, SessionAllows, lease_step, minutes_needed, session_held, session_step_of, sessions_by}
+use Rattle.desk_trail.specs.Leases.{IsIdAt, SessionAllows, lease_step, minutes_needed, session_held, session_step_of, sessions_by}
 use Rattle.desk_trail.specs.Legal.{AreLegal, Point, StandsAt, beginning, client_after, point_after, point_behind}
 use Rattle.desk_trail.specs.Looks.{look_by}
 use Rattle.desk_trail.specs.Parts.{of_sessions, session_part, session_step, session_tells}
@@ -121,7 +120,7 @@ lease-free law client xs t f e place step is =
     let part = session_part client xs in
     let x : Timed SessEntry = record { at = t.at; what = e } in
     let all : session_part client (xs ++ t ∷ []) ≡ part ++ x ∷ [] =
-        told_from-more client session_tells (beginning client) xs t ∙ ap (λ o. part ++ of_sessions t.at o) step in
+    told_from-more client session_tells (beginning client) xs t ∙ ap (λ o. part ++ of_sessions t.at o) step in
     let h : IsHistory (part ++ x ∷ []) = subst IsHistory all (session-leads client (xs ++ t ∷ []) f.all).legal in
     let free = law (part ++ x ∷ []) h (length part) place x (slice_get-last part x) is in
     subst (λ (p : Place Sessions SessEntry). IsHeldByNobody p.state.made place) (sym (session-leads client xs f.front).to)
@@ -248,7 +247,7 @@ holds-step law client xs moment (fact.Leased k place lsid fresh) f h =
     let step : session_held w k t.what ≡ Some (lease_step place lsid fresh l.minutes) = held-step w k t.what m.running m.there ∙ l.step in
     let g = λ (c : CommandState). record c { session = Some place } in
     let made : (client_after client moment w t.what).sessions.made ≡ (after w.sessions moment (lease_step place lsid fresh l.minutes)).made =
-        ap (λ (s : Sessions). s.made) (sessions-after client (point_behind client xs) t f.stands ∙ ap (λ o. sessions_by moment o w.sessions) step) in
+    ap (λ (s : Sessions). s.made) (sessions-after client (point_behind client xs) t f.stands ∙ ap (λ o. sessions_by moment o w.sessions) step) in
     subst (Held (read sess (client_after client moment w t.what).commands)) (sym made)
     (held-leased (read sess w.commands) (read sess (client_after client moment w t.what).commands) w.sessions.made (after w.sessions moment (lease_step place lsid fresh l.minutes)).made k place
     (own-read w.commands k g m.running m.there) (λ op n. other-read w.commands k op g n)
@@ -259,7 +258,7 @@ holds-step law client xs moment (fact.Drew k number) f h =
     let t : Timed Fact = record { at = moment; what = fact.Drew k number } in
     let m = f.stands.rule in
     let made : (client_after client moment w t.what).sessions.made ≡ (sessions_by moment (option_map (λ place. session.Drew place number) m.running.session) w.sessions).made =
-        ap (λ (s : Sessions). s.made) (sessions-after client (point_behind client xs) t f.stands ∙ ap (λ o. sessions_by moment o w.sessions) (held-step w k t.what m.running m.there)) in
+    ap (λ (s : Sessions). s.made) (sessions-after client (point_behind client xs) t f.stands ∙ ap (λ o. sessions_by moment o w.sessions) (held-step w k t.what m.running m.there)) in
     held-same (read sess w.commands) (read sess (client_after client moment w t.what).commands) w.sessions.made (client_after client moment w t.what).sessions.made
     (λ op. kept sess w.commands k op (λ c. record c { number = Some number }) (λ c. refl))
     (λ place i. subst (λ ys. IsOut ys place) (sym made) (drew-out moment number w.sessions m.running.session place i)) h
@@ -269,11 +268,11 @@ holds-step law client xs moment (fact.Returned k dirty keeps) f h =
     let m = f.stands.rule in
     let g = λ (c : CommandState). record c { session = None } in
     let made : (client_after client moment w t.what).sessions.made ≡ (sessions_by moment (option_map (λ place. session.Returned place dirty keeps) m.running.session) w.sessions).made =
-        ap (λ (s : Sessions). s.made) (sessions-after client (point_behind client xs) t f.stands ∙ ap (λ o. sessions_by moment o w.sessions) (held-step w k t.what m.running m.there)) in
+    ap (λ (s : Sessions). s.made) (sessions-after client (point_behind client xs) t f.stands ∙ ap (λ o. sessions_by moment o w.sessions) (held-step w k t.what m.running m.there)) in
     held-returned (read sess w.commands) (read sess (client_after client moment w t.what).commands) w.sessions (client_after client moment w t.what).sessions.made k
     (own-read w.commands k g m.running m.there) (λ op n. other-read w.commands k op g n)
     (λ a place x n. subst (λ ys. IsOut ys place) (sym made)
-        (returned-out (read sess w.commands) w.sessions moment k dirty keeps m.running.session (ap (λ o. option_map sess o) m.there) h a place x n)) h
+    (returned-out (read sess w.commands) w.sessions moment k dirty keeps m.running.session (ap (λ o. option_map sess o) m.there) h a place x n)) h
 holds-step law client xs moment (fact.Finished k outcome) f h =
     let w = (point_behind client xs).state in
     let t : Timed Fact = record { at = moment; what = fact.Finished k outcome } in

@@ -1,6 +1,6 @@
 -- Along a legal trail each pool has the commands as they are.
 use Rattle.std.proofs.Common.{◌≡◌, ◌≤◌, ◌<◌, ℕ, ◌+◌, Bool, true, false, cond, eqb, List, [], ◌∷◌, ◌++◌, map, Option, None, Some, refl, sym, ap, ◌∙◌, subst, arith, ◌⊎◌, inl, inr}
-use Rattle.std.specs.Prelude.{slice_get, ◌==◌, ◌&&◌, if◌then◌else◌}
+use Rattle.std.specs.Prelude.{slice_get, ◌&&◌}
 use Rattle.std.specs.Option.{option_map, option_and_then}
 use Rattle.std.proofs.lemmas.Bool.{eq-eqb}
 use Rattle.std.proofs.lemmas.Bool.Decides.{eqb_tells}
@@ -22,13 +22,13 @@ use Rattle.desk_trail.specs.Clients.{Client, pool_rules}
 use Rattle.desk_trail.specs.Facts.{Fact}
 use Rattle.desk_trail.specs.Facts as fact
 use Rattle.desk_trail.specs.Holds.{DialsAt, HasAt, IsHeldBy, WaitsAt}
-use Rattle.desk_trail.specs.Legal.{AreLegal, MayStand, Point, StandsAt, beginning, point_after, point_behind}
-use Rattle.desk_trail.specs.Parts.{of_pool, pool_part}
+use Rattle.desk_trail.specs.Legal.{AreLegal, MayStand, Point, beginning, point_after, point_behind}
+use Rattle.desk_trail.specs.Parts.{pool_part}
 use Rattle.desk_trail.specs.Pools.{PoolAllows, at_host, dials_by, has_by, lost_with, not_lent_with, pool_step, ticket_dialling, ticket_having, ticket_with}
 use Rattle.desk_trail.specs.States.{CheckOut, ClientState, CommandState, Dials, Has, Nothing, ServerState, Waits, fresh_command}
-use Rattle.desk_trail.proofs.CheckOutLemmas.{Acting, Enters, Frees, HoldsIn, Matched, Moves, Tick, acts_as, dials-on, has-on, holds-on, matched-acting, matched-alone, matched-on, moved, moved_by, out-step, out_at, out_in, was}
+use Rattle.desk_trail.proofs.CheckOutLemmas.{Enters, Frees, HoldsIn, Matched, Moves, Tick, acts_as, dials-on, has-on, holds-on, matched-acting, matched-alone, matched-on, moved, moved_by, out-step, out_at, out_in, was}
 use Rattle.desk_trail.proofs.HeldLemmas.{AllOk, IsDialling, IsOnce, IsWaiting, dialled-behind, entered-behind, lent-behind}
-use Rattle.desk_trail.proofs.PartLemmas.{Further, Leads, along}
+use Rattle.desk_trail.proofs.PartLemmas.{Leads, along}
 use Rattle.desk_trail.proofs.PoolLemmas.{PoolLeads, pool-leads, pool-step-leads, pool_at, pool_or}
 
 -- ---- How an entry of a pool moves the pools
@@ -120,11 +120,11 @@ by-lost x (Has host ticket conn) e s = absurd (cc)
 by-lost x (Dials host ticket conn) e s =
     elim (eqb_tells host x) [
       | inl w ↦ record {
-          number = ticket;
-          why = pool.Lost conn;
-          is = let s' : Some (pool.NotLent ticket (pool.Lost conn)) ≡ Some e = rw w.0 at s in let same : e ≡ pool.NotLent ticket (pool.Lost conn) = cc in same;
-          has = rw w.0 refl;
-        }
+        number = ticket;
+        why = pool.Lost conn;
+        is = let s' : Some (pool.NotLent ticket (pool.Lost conn)) ≡ Some e = rw w.0 at s in let same : e ≡ pool.NotLent ticket (pool.Lost conn) = cc in same;
+        has = rw w.0 refl;
+      }
       | inr w ↦ absurd (let s' : None ≡ Some e = rw w.0 at s in cc)
     ]
 
@@ -164,12 +164,12 @@ lent-becomes outs q r x moment n conn m k Nothing t i = absurd (cc)
 lent-becomes outs q r x moment n conn m k (Waits host ticket) t i =
     let s = same-ticket host x ticket n t in
     let here : IsHeldBy (r x).state.lent conn n = subst (λ (p : Place Pool PoolEntry). IsHeldBy p.state.lent conn n) (sym m.here)
-        (lent-behind (q x).state (q x).owed moment n conn m.stands (k.ok x) (subst (λ (p : Place Pool PoolEntry). IsOnce p.state) m.here m.once)) in
+    (lent-behind (q x).state (q x).owed moment n conn m.stands (k.ok x) (subst (λ (p : Place Pool PoolEntry). IsOnce p.state) m.here m.once)) in
     subst (λ y. IsHeldBy (r y).state.lent conn ticket) (sym s.0) (subst (λ y. IsHeldBy (r x).state.lent conn y) (sym s.1) here)
 lent-becomes outs q r x moment n conn m k (Dials host ticket c) t i =
     let s = same-ticket host x ticket n t in
     let here : IsHeldBy (r x).state.lent conn n = subst (λ (p : Place Pool PoolEntry). IsHeldBy p.state.lent conn n) (sym m.here)
-        (lent-behind (q x).state (q x).owed moment n conn m.stands (k.ok x) (subst (λ (p : Place Pool PoolEntry). IsOnce p.state) m.here m.once)) in
+    (lent-behind (q x).state (q x).owed moment n conn m.stands (k.ok x) (subst (λ (p : Place Pool PoolEntry). IsOnce p.state) m.here m.once)) in
     subst (λ y. IsHeldBy (r y).state.lent conn ticket) (sym s.0) (subst (λ y. IsHeldBy (r x).state.lent conn y) (sym s.1) here)
 lent-becomes outs q r x moment n conn m k (Has host ticket c) t i = has-on q r x moment (pool.Lent n conn) m host ticket c (λ _. refl) i
 
@@ -179,7 +179,7 @@ dialled-becomes outs q r x moment n conn m k Nothing t i = absurd (cc)
 dialled-becomes outs q r x moment n conn m k (Waits host ticket) t i =
     let s = same-ticket host x ticket n t in
     let here : IsHeldBy (r x).state.pending conn n = subst (λ (p : Place Pool PoolEntry). IsHeldBy p.state.pending conn n) (sym m.here)
-        (dialled-behind (q x).state (q x).owed moment n conn m.stands (k.ok x) (subst (λ (p : Place Pool PoolEntry). IsOnce p.state) m.here m.once)) in
+    (dialled-behind (q x).state (q x).owed moment n conn m.stands (k.ok x) (subst (λ (p : Place Pool PoolEntry). IsOnce p.state) m.here m.once)) in
     inl (subst (λ y. IsHeldBy (r y).state.pending conn ticket) (sym s.0) (subst (λ y. IsHeldBy (r x).state.pending conn y) (sym s.1) here))
 dialled-becomes outs q r x moment n conn m k (Dials host ticket c) t i = dials-on q r x moment (pool.Dialled n conn) m host ticket c (λ _. refl) i
 dialled-becomes outs q r x moment n conn m k (Has host ticket c) t i = has-on q r x moment (pool.Dialled n conn) m host ticket c (λ _. refl) i
@@ -207,21 +207,21 @@ still client p moment f v s none idle h =
       holds = λ op k there. holds-same k (h.holds op k (sym (same-out op) ∙ there));
       ok = λ host. subst (λ (q : Place Pool PoolEntry). AllOk q.state q.owed) (sym (same-place host)) (h.ok host);
     } where
-  same-out : (op : ℕ) → out_at v.commands op ≡ out_at p.state.commands op
-  same-out op =
-      s.outs op ∙ subst (λ b. option_map (λ h. cond b (moved_by f h) h) (out_at p.state.commands op) ≡ out_at p.state.commands op) (sym (idle op)) (option_map_id (out_at p.state.commands op))
+      same-out : (op : ℕ) → out_at v.commands op ≡ out_at p.state.commands op
+      same-out op =
+          s.outs op ∙ subst (λ b. option_map (λ h. cond b (moved_by f h) h) (out_at p.state.commands op) ≡ out_at p.state.commands op) (sym (idle op)) (option_map_id (out_at p.state.commands op))
 
-  same-place : (host : ℕ) → pool_at client v.servers host ≡ pool_at client p.state.servers host
-  same-place host = (subst (λ o. PoolLeads client host moment p.state o v) none (s.leads host)).to
+      same-place : (host : ℕ) → pool_at client v.servers host ≡ pool_at client p.state.servers host
+      same-place host = (subst (λ o. PoolLeads client host moment p.state o v) none (s.leads host)).to
 
-  old : (op host ticket : ℕ) → Tick (out_at v.commands) op host ticket → Tick (out_at p.state.commands) op host ticket
-  old op host ticket x = record { out = x.out; there = sym (same-out op) ∙ x.there; has = x.has }
+      old : (op host ticket : ℕ) → Tick (out_at v.commands) op host ticket → Tick (out_at p.state.commands) op host ticket
+      old op host ticket x = record { out = x.out; there = sym (same-out op) ∙ x.there; has = x.has }
 
-  holds-same : (k : CheckOut) → HoldsIn (pool_at client p.state.servers) k → HoldsIn (pool_at client v.servers) k
-  holds-same Nothing i = tt
-  holds-same (Waits host ticket) i = subst (λ (q : Place Pool PoolEntry). IsWaiting q.state ticket) (sym (same-place host)) i
-  holds-same (Dials host ticket conn) i = subst (λ (q : Place Pool PoolEntry). IsDialling q.state q.owed conn ticket) (sym (same-place host)) i
-  holds-same (Has host ticket conn) i = subst (λ (q : Place Pool PoolEntry). IsHeldBy q.state.lent conn ticket) (sym (same-place host)) i
+      holds-same : (k : CheckOut) → HoldsIn (pool_at client p.state.servers) k → HoldsIn (pool_at client v.servers) k
+      holds-same Nothing i = tt
+      holds-same (Waits host ticket) i = subst (λ (q : Place Pool PoolEntry). IsWaiting q.state ticket) (sym (same-place host)) i
+      holds-same (Dials host ticket conn) i = subst (λ (q : Place Pool PoolEntry). IsDialling q.state q.owed conn ticket) (sym (same-place host)) i
+      holds-same (Has host ticket conn) i = subst (λ (q : Place Pool PoolEntry). IsHeldBy q.state.lent conn ticket) (sym (same-place host)) i
 
 alone : (client : Client) (p : Point) (moment : ℕ) (f : Fact) (v : ClientState) (x : ℕ) (e : PoolEntry) → Stepped client p moment f v → pool_step p.state f ≡ Some (x, e) →
     ((op : ℕ) → acts_as f op ≡ false) → ((ticket : ℕ) → Frees ticket e) → Meets client p.state → Meets client v
@@ -322,26 +322,26 @@ matched-entered : (outs after : ℕ → Option CheckOut) (q r : ℕ → Place Po
 matched-entered outs after q r op x moment n m h moves =
     matched-on outs after q r x moment (pool.Entered n) op m h
     (λ k host ticket t. let w = was (moved (fact.Entered op x n) k) (outs k) (after k) t.out (moves k) t.there in
-        ticks k host ticket w.0 w.1 (ap (ticket_with host) (sym w.2) ∙ t.has))
+    ticks k host ticket w.0 w.1 (ap (ticket_with host) (sym w.2) ∙ t.has))
     (λ k y there. let w = was (moved (fact.Entered op x n) k) (outs k) (after k) y (moves k) there in subst (HoldsIn r) (sym w.2) (holds k w.0 w.1)) where
-  i : In q r x n
-  i = comes-in outs q r x moment n m h
+      i : In q r x n
+      i = comes-in outs q r x moment n m h
 
-  ticks : (k host ticket : ℕ) (y : CheckOut) → outs k ≡ Some y → ticket_with host (moved (fact.Entered op x n) k y) ≡ Some ticket →
-      Tick outs k host ticket ⊎ Enters q r op x k host ticket
-  ticks k host ticket y there has = elim (eqb_tells op k) [
-    | inl w ↦
-        let g : ticket_with host (Waits x n) ≡ Some ticket = rw w.0 at has in
-        let s = same-ticket x host n ticket g in
-        inr (record { by = sym w.1; at = sym s.0; new = sym s.1 ∙ i.new; counted = let c = i.counted in let e = s.1 in omega arith })
-    | inr w ↦ let g : ticket_with host y ≡ Some ticket = rw w.0 at has in inl (record { out = y; there = there; has = g })
-  ]
+      ticks : (k host ticket : ℕ) (y : CheckOut) → outs k ≡ Some y → ticket_with host (moved (fact.Entered op x n) k y) ≡ Some ticket →
+          Tick outs k host ticket ⊎ Enters q r op x k host ticket
+      ticks k host ticket y there has = elim (eqb_tells op k) [
+        | inl w ↦
+            let g : ticket_with host (Waits x n) ≡ Some ticket = rw w.0 at has in
+            let s = same-ticket x host n ticket g in
+            inr (record { by = sym w.1; at = sym s.0; new = sym s.1 ∙ i.new; counted = let c = i.counted in let e = s.1 in omega arith })
+        | inr w ↦ let g : ticket_with host y ≡ Some ticket = rw w.0 at has in inl (record { out = y; there = there; has = g })
+      ]
 
-  holds : (k : ℕ) (y : CheckOut) → outs k ≡ Some y → HoldsIn r (moved (fact.Entered op x n) k y)
-  holds k y there = elim (eqb_tells op k) [
-    | inl w ↦ rw w.0 i.waits
-    | inr w ↦ rw w.0 (holds-on q r x moment (pool.Entered n) m y (λ ticket _. record { takes = refl; pays = refl; gives = refl }) (h.holds k y there))
-  ]
+      holds : (k : ℕ) (y : CheckOut) → outs k ≡ Some y → HoldsIn r (moved (fact.Entered op x n) k y)
+      holds k y there = elim (eqb_tells op k) [
+        | inl w ↦ rw w.0 i.waits
+        | inr w ↦ rw w.0 (holds-on q r x moment (pool.Entered n) m y (λ ticket _. record { takes = refl; pays = refl; gives = refl }) (h.holds k y there))
+      ]
 
 -- ---- Along a trail
 
@@ -397,14 +397,14 @@ pub meets : StandsOnce → (client : Client) (ts : List (Timed Fact)) → AreLeg
 meets law client ts l =
     along client (λ p. Meets client p.state)
     (λ xs t f h.
-        let p = point_behind client xs in
-        let v = (point_after client p t).state in
-        meets-step client p t.at t.what v f.stands.rule
-        (record {
-          leads = λ host. pool-step-leads client host p t f.stands;
-          outs = λ op. out-step client t.at p.state t.what op;
-          once = λ host. subst (λ (q : Point). IsOnce (pool_at client q.state.servers host).state) f.to (once-at law client (xs ++ t ∷ []) f.all host);
-        }) h)
+    let p = point_behind client xs in
+    let v = (point_after client p t).state in
+    meets-step client p t.at t.what v f.stands.rule
+    (record {
+      leads = λ host. pool-step-leads client host p t f.stands;
+      outs = λ op. out-step client t.at p.state t.what op;
+      once = λ host. subst (λ (q : Point). IsOnce (pool_at client q.state.servers host).state) f.to (once-at law client (xs ++ t ∷ []) f.all host);
+    }) h)
     (meets-begins client) ts l
 
 -- ---- In the words of the laws

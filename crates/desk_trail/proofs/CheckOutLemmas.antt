@@ -1,39 +1,31 @@
 -- Where each command is with a pool, and that the pool has it so.
-use Rattle.std.proofs.Common.{◌≡◌, ◌≤◌, ◌<◌, ℕ, ◌+◌, Bool, true, false, cond, eqb, List, [], ◌∷◌, ◌++◌, Option, None, Some, refl, sym, ap, ◌∙◌, subst, arith, ◌⊎◌, inl, inr}
-use Rattle.std.specs.Prelude.{slice_get, map, ◌==◌, ◌&&◌, if◌then◌else◌}
-use Rattle.std.specs.Option.{option_map, option_and_then}
-use Rattle.std.proofs.lemmas.Bool.{eqb-true, eq-eqb}
+use Rattle.std.proofs.Common.{◌≡◌, ◌≤◌, ◌<◌, ℕ, ◌+◌, Bool, true, false, cond, eqb, List, Option, None, Some, refl, sym, ap, ◌∙◌, subst, arith, ◌⊎◌, inl, inr}
+use Rattle.std.specs.Prelude.{slice_get}
+use Rattle.std.specs.Option.{option_map}
+use Rattle.std.proofs.lemmas.Bool.{eq-eqb}
 use Rattle.std.proofs.lemmas.Bool.Decides.{eqb_tells}
-use Rattle.std.proofs.lemmas.Option.{slice_get-map}
 use Rattle.std.proofs.lemmas.Iterator.Adapters.{option_map_id}
-use Rattle.cmd_build.specs.declared.command.Command.{Command}
-use Rattle.entry_judge.specs.declared.timed.Timed.{Timed}
 use Rattle.entry_judge.specs.Groups.{Place, Stands, next_place}
 use Rattle.pool_book.specs.Entries.{PoolEntry}
-use Rattle.pool_book.specs.Entries as pool
 use Rattle.pool_book.specs.Judge.{pool_judge}
-use Rattle.pool_book.specs.Pool.{Pool, held_of}
-use Rattle.write_retry.specs.declared.events.Unsent.{Unsent}
-use Rattle.write_retry.specs.declared.events.Unsent.TheVariants as unsent
+use Rattle.pool_book.specs.Pool.{Pool}
 use Rattle.desk_trail.specs.declared.entry.LookedHow.{LookedHow}
 use Rattle.desk_trail.specs.declared.entry.LookedHow.TheVariants as looked
 use Rattle.desk_trail.specs.declared.request.Purpose.{Purpose}
 use Rattle.desk_trail.specs.declared.request.Purpose.TheVariants as purpose
 use Rattle.desk_trail.specs.Attempts.{OfCommand, asked_by, command_step, commands_after, end_by, finished, with_event}
-use Rattle.desk_trail.specs.Checks.{kept_at, stream_taken}
+use Rattle.desk_trail.specs.Checks.{kept_at}
 use Rattle.desk_trail.specs.Clients.{Client}
 use Rattle.desk_trail.specs.Facts.{Fact}
 use Rattle.desk_trail.specs.Facts as fact
 use Rattle.desk_trail.specs.Holds.{IsHeldBy}
-use Rattle.desk_trail.specs.Legal.{MayStand, Point, StandsAt, beginning, changed_by, client_after, ends_by, point_after, pool_after}
+use Rattle.desk_trail.specs.Legal.{changed_by, client_after, pool_after}
 use Rattle.desk_trail.specs.Looks.{look_asks, look_by}
-use Rattle.desk_trail.specs.Parts.{of_pool}
-use Rattle.desk_trail.specs.Pools.{OfHost, PoolAllows, at_host, check_out_after, check_out_of, conn_streams_after, dials_by, has_by, lost_with, not_lent_with, pool_step, pools_after, ticket_dialling, ticket_having, ticket_with, waits_now}
+use Rattle.desk_trail.specs.Pools.{check_out_after, conn_streams_after, dials_by, has_by, pool_step, pools_after, ticket_with, waits_now}
 use Rattle.desk_trail.specs.Requests.{farewell_by}
-use Rattle.desk_trail.specs.States.{CheckOut, ClientState, CommandState, Dials, Has, Nothing, Waits, changed, fresh_command}
-use Rattle.desk_trail.proofs.HeldLemmas.{AllOk, IsDialling, IsOnce, IsWaiting, dialled-behind, dials-behind, entered-behind, entered-rises, gives, has-behind, lent-behind, ok-behind, pays, takes, waits-behind}
+use Rattle.desk_trail.specs.States.{CheckOut, ClientState, CommandState, Dials, Has, Nothing, Waits, changed}
+use Rattle.desk_trail.proofs.HeldLemmas.{AllOk, IsDialling, IsOnce, IsWaiting, dials-behind, entered-rises, gives, has-behind, ok-behind, pays, takes, waits-behind}
 use Rattle.desk_trail.proofs.ListLemmas.{changed-keeps, changed-other, changed-same}
-use Rattle.desk_trail.proofs.PartLemmas.{Leads}
 use Rattle.desk_trail.proofs.RestLemmas.{Beside-ends_by, Beside-farewell_by, Beside-look_asks, Beside-offered, Beside-pool, Beside-stream_taken}
 
 -- ---- Where a command is with a pool, entry by entry

@@ -1,14 +1,13 @@
 -- The events of a command are a history of it, which leads to what the client has of it.
-use Rattle.std.proofs.Common.{◌≡◌, ℕ, ◌+◌, Bool, true, false, cond, eqb, List, [], ◌∷◌, ◌++◌, Option, None, Some, refl, sym, ap, ◌∙◌, subst, ◌⊎◌, inl, inr}
-use Rattle.std.specs.Prelude.{slice_get, map, ◌==◌, if◌then◌else◌}
+use Rattle.std.proofs.Common.{◌≡◌, ℕ, ◌+◌, true, List, Option, None, Some, refl, sym, ap, ◌∙◌, subst, inl, inr}
+use Rattle.std.specs.Prelude.{slice_get, map}
 use Rattle.std.specs.Option.{option_map, option_map_or}
 use Rattle.std.proofs.lemmas.Bool.Decides.{eqb_tells}
 use Rattle.std.proofs.lemmas.Option.{slice_get-map}
 use Rattle.entry_judge.specs.declared.timed.Timed.{Timed}
-use Rattle.entry_judge.specs.Judge.{Legal, state_after}
 use Rattle.cmd_build.specs.declared.command.Command.{Command}
 use Rattle.cmd_build.specs.Ops.{writes, retries}
-use Rattle.write_retry.specs.Histories.{IsHistory, behind}
+use Rattle.write_retry.specs.Histories.{behind}
 use Rattle.write_retry.specs.Machine.{Op, allows, new_op}
 use Rattle.write_retry.specs.Machine as machine
 use Rattle.write_retry.specs.declared.events.OpEvent.{OpEvent}
@@ -17,12 +16,11 @@ use Rattle.desk_trail.specs.declared.entry.LookedHow.TheVariants as looked
 use Rattle.desk_trail.specs.declared.request.Purpose.{Purpose}
 use Rattle.desk_trail.specs.declared.request.Purpose.TheVariants as purpose
 use Rattle.desk_trail.specs.Attempts.{CommandAllows, OfCommand, asked_by, command_step, commands_after, end_by, finished, with_event}
-use Rattle.desk_trail.specs.Checks.{kept_at, stream_taken}
+use Rattle.desk_trail.specs.Checks.{kept_at}
 use Rattle.desk_trail.specs.Clients.{Client}
 use Rattle.desk_trail.specs.Facts.{Fact}
 use Rattle.desk_trail.specs.Facts as fact
-use Rattle.desk_trail.specs.Leases.{with_sessions}
-use Rattle.desk_trail.specs.Legal.{AreLegal, Point, StandsAt, beginning, changed_by, client_after, ends_by, point_after, point_behind, pool_after}
+use Rattle.desk_trail.specs.Legal.{AreLegal, Point, StandsAt, beginning, changed_by, point_after, point_behind, pool_after}
 use Rattle.desk_trail.specs.Looks.{look_asks, look_by}
 use Rattle.desk_trail.specs.Parts.{command_tells, events_of, of_command}
 use Rattle.desk_trail.specs.Pools.{check_out_after, conn_streams_after, dials_by, has_by, pool_step, pools_after, waits_now}

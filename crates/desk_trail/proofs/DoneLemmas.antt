@@ -1,10 +1,11 @@
 -- Behind its answer no entry is of a command, the return of its session aside; and a command draws once.
-use Rattle.std.proofs.Common.{◌≡◌, ℕ, Bool, true, false, not, ◌&&◌, cond, eqb, List, [], ◌∷◌, ◌++◌, Option, None, Some, refl, sym, ap, ◌∙◌, subst, ◌⊎◌, inl, inr}
+use Rattle.std.proofs.Common.{◌≡◌, ℕ, Bool, true, false, not, ◌&&◌, cond, eqb, List, [], ◌∷◌, ◌++◌, Option, None, Some, refl, sym, ap, ◌∙◌, subst, inl, inr}
 use Rattle.std.specs.Prelude.{ℤ, slice_get, is_some}
 use Rattle.std.specs.Option.{option_map, option_and_then}
+use Rattle.std.proofs.lemmas.Bool.{eq-eqb}
 use Rattle.std.proofs.lemmas.Bool.Decides.{eqb_tells}
 use Rattle.entry_judge.specs.declared.timed.Timed.{Timed}
-use Rattle.entry_judge.specs.Judge.{Legal, state_after}
+use Rattle.entry_judge.specs.Judge.{Legal}
 use Rattle.std.proofs.lemmas.Iterator.Adapters.{option_map_id}
 use Rattle.entry_judge.specs.LegalLaws.{Legal-rest}
 use Rattle.pool_book.specs.Entries.{PoolEntry}
@@ -16,7 +17,6 @@ use Rattle.write_retry.specs.declared.events.Next.TheVariants as next
 use Rattle.write_retry.specs.declared.events.OpEvent.{OpEvent}
 use Rattle.write_retry.specs.declared.events.Unsent.{Unsent}
 use Rattle.write_retry.specs.declared.events.Unsent.TheVariants as unsent
-use Rattle.write_retry.specs.declared.attempt_end.AttemptEnd.{AttemptEnd}
 use Rattle.write_retry.specs.declared.outcome.Outcome.{Outcome}
 use Rattle.desk_trail.specs.declared.entry.LookedHow.{LookedHow}
 use Rattle.desk_trail.specs.declared.entry.LookedHow.TheVariants as looked
@@ -26,15 +26,15 @@ use Rattle.desk_trail.specs.Attempts.{CommandAllows, OfCommand, asked_event, com
 use Rattle.desk_trail.specs.Clients.{Client}
 use Rattle.desk_trail.specs.Facts.{Fact}
 use Rattle.desk_trail.specs.Facts as fact
-use Rattle.desk_trail.specs.Leases.{is_at_choice, needs_number}
+use Rattle.desk_trail.specs.Leases.{is_at_choice}
 use Rattle.desk_trail.specs.Legal.{AreLegal, MayStand, Point, StandsAt, beginning, changed_by, client_after, point_after, point_behind}
 use Rattle.desk_trail.specs.Looks.{look_by}
 use Rattle.desk_trail.specs.Orders.{asks_for, is_of}
-use Rattle.desk_trail.specs.Pools.{PoolAllows, at_host, not_lent_with, pool_step, ticket_dialling, ticket_having, ticket_with}
+use Rattle.desk_trail.specs.Pools.{PoolAllows, at_host, not_lent_with, ticket_dialling, ticket_having, ticket_with}
 use Rattle.desk_trail.specs.States.{CheckOut, ClientState, CommandState, Nothing, changed}
-use Rattle.desk_trail.proofs.CheckOutLemmas.{acts_as, moved, moved_by, out-step, out_at}
+use Rattle.desk_trail.proofs.CheckOutLemmas.{acts_as, moved_by, out-step, out_at}
 use Rattle.desk_trail.proofs.CommandLemmas.{changed-op, op_at, op_in}
-use Rattle.desk_trail.proofs.FieldLemmas.{Apart, event-kept, kept, plain-kept, read}
+use Rattle.desk_trail.proofs.FieldLemmas.{Apart, kept, plain-kept, read}
 use Rattle.desk_trail.proofs.ListLemmas.{changed-other, changed-same}
 
 -- ---- What an answered command is
@@ -225,6 +225,13 @@ no-more-behind client xs ys moment op outcome t l =
     let p = point_behind client xs in
     let m = Legal-rest (StandsAt client) (point_after client) (beginning client) xs (e ∷ (ys ++ t ∷ [])) l in
     done-from client (point_after client p e) ys t op (done-begins client p moment op outcome m.0.rule) m.1
+
+pub finished-once : (client : Client) (xs ys : List (Timed Fact)) (first second op : ℕ) (outcome other : Outcome) →
+    AreLegal client (xs ++ record { at = first; what = fact.Finished op outcome } ∷ (ys ++ record { at = second; what = fact.Finished op other } ∷ [])) → ⊥
+finished-once client xs ys first second op outcome other l =
+    let no : eqb op op ≡ false = no-more-behind client xs ys first op outcome (record { at = second; what = fact.Finished op other }) l in
+    let yes : eqb op op ≡ true = eq-eqb op op refl in
+    absurd (let wrong : true ≡ false = sym yes ∙ no in cc)
 
 -- ---- A command draws once
 

@@ -1,7 +1,7 @@
 -- A session's id and a number are drawn together at most once.
-use Rattle.std.proofs.Common.{◌≡◌, ◌≤◌, ◌<◌, ℕ, ◌+◌, Bool, true, false, cond, eqb, List, [], ◌∷◌, ◌++◌, length, map, take, Option, None, Some, refl, sym, ap, ◌∙◌, subst, arith, inl, inr}
+use Rattle.std.proofs.Common.{◌≡◌, ◌≤◌, ℕ, ◌+◌, List, [], ◌∷◌, ◌++◌, length, take, Option, None, Some, refl, sym, ap, ◌∙◌, subst, arith, inl, inr}
 use Rattle.std.specs.Prelude.{ℤ, pos, slice_get}
-use Rattle.std.specs.Option.{option_map, option_and_then}
+use Rattle.std.specs.Option.{option_map}
 use Rattle.std.proofs.lemmas.Bool.{eq-eqb}
 use Rattle.std.proofs.lemmas.Bool.Decides.{eqb_tells}
 use Rattle.std.proofs.lemmas.List.{append_assoc}
@@ -12,15 +12,14 @@ use Rattle.entry_judge.specs.Judge.{Legal, state_after}
 use Rattle.entry_judge.specs.LegalLaws.{Legal-front, Legal-rest, state_after-append}
 use Rattle.sess_book.specs.Entries.{SessEntry, after, sessions_judge, with_session}
 use Rattle.sess_book.specs.Entries as session
-use Rattle.sess_book.specs.Laws.{IdsDiffer, IsHistory, draws, is_draw}
+use Rattle.sess_book.specs.Laws.{IdsDiffer, IsHistory, draws}
 use Rattle.sess_book.specs.Sessions.{Sessions, no_sessions}
-use Rattle.sess_book.specs.declared.session.Holding.{Holding}
 use Rattle.sess_book.specs.declared.session.Holding.TheVariants as holding
 use Rattle.sess_book.specs.declared.session.Session.{Session}
 use Rattle.desk_trail.specs.Clients.{Client}
 use Rattle.desk_trail.specs.Facts.{Fact}
 use Rattle.desk_trail.specs.Facts as fact
-use Rattle.desk_trail.specs.Leases.{IsDraw, SessionAllows, session_held, session_step_of, sessions_by}
+use Rattle.desk_trail.specs.Leases.{SessionAllows, sessions_by}
 use Rattle.desk_trail.specs.Legal.{AreLegal, Point, StandsAt, beginning, point_after, point_behind}
 use Rattle.desk_trail.specs.Parts.{of_sessions, session_part, session_step, session_tells, told_from}
 use Rattle.desk_trail.specs.Requests.{lsid_of}
@@ -158,6 +157,12 @@ lsid-read w c place one e f = ap (λ o. lsid_of w.sessions o) e ∙ ap id_in f
 same-command : (cs : List CommandState) (op : ℕ) (c d : CommandState) → slice_get cs op ≡ Some c → slice_get cs op ≡ Some d → c ≡ d
 same-command cs op c d e f = cc
 
+its-id : (client : Client) (xs : List (Timed Fact)) (moment op : ℕ) (number : ℤ) (d : Draws client xs moment op number) (c : CommandState) →
+    slice_get (point_behind client xs).state.commands op ≡ Some c → lsid_of (point_behind client xs).state.sessions c.session ≡ Some d.one.lsid
+its-id client xs moment op number d c there =
+    let w = (point_behind client xs).state in
+    ap (λ (y : CommandState). lsid_of w.sessions y.session) (same-command w.commands op c d.running there d.there) ∙ lsid-read w d.running d.place d.one d.has d.stands
+
 found-id : (o : Option Session) (id : Lsid) → id_in o ≡ Some id → (x : Session) × (o ≡ Some x) × (x.lsid ≡ id)
 found-id None id h = absurd (cc)
 found-id (Some x) id h = (x, refl, let same : x.lsid ≡ id = cc in same)
@@ -187,9 +192,9 @@ pair-once ids numbers client xs ys first second a b m n x y l i j same is =
     let w = (point_behind client xs).state in
     let v = (point_behind client zs).state in
     let own : lsid_of w.sessions x.session ≡ Some d.one.lsid =
-    ap (λ (c : CommandState). lsid_of w.sessions c.session) (same-command w.commands a x d.running i d.there) ∙ lsid-read w d.running d.place d.one d.has d.stands in
+    its-id client xs first a m d x i in
     let its : lsid_of v.sessions y.session ≡ Some e.one.lsid =
-    ap (λ (c : CommandState). lsid_of v.sessions c.session) (same-command v.commands b y e.running j e.there) ∙ lsid-read v e.running e.place e.one e.has e.stands in
+    its-id client zs second b n e y j in
     let lsid : d.one.lsid ≡ e.one.lsid = cc in
     let to : point_behind client zs ≡ state_after (point_after client) (point_behind client xs) (t ∷ ys) = state_after-append (point_after client) (beginning client) xs (t ∷ ys) in
     let rest = Legal-rest (StandsAt client) (point_after client) (beginning client) xs (t ∷ ys) front in
@@ -202,6 +207,6 @@ pair-once ids numbers client xs ys first second a b m n x y l i j same is =
     let place : d.place ≡ e.place = apart d.place e.place f.0 e.one f.1 e.stands (f.2 ∙ lsid) in
     let first_is = number-is numbers client xs first a m one d in
     let second_is : n ≡ pos (draws d.place (entries_of (session_part client zs)) + 1) =
-    number-is numbers client zs second b n all e ∙ ap (λ k. pos (draws k (entries_of (session_part client zs)) + 1)) (sym place) in
+    subst (λ k. n ≡ pos (draws k (entries_of (session_part client zs)) + 1)) (sym place) (number-is numbers client zs second b n all e) in
     no-number (draws d.place (entries_of (session_part client xs))) (draws d.place (entries_of (session_part client zs))) m n first_is second_is
     (grown client xs ys first a m d) is

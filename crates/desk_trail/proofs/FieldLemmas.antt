@@ -1,5 +1,5 @@
 -- A part of each command that only leases, draws, returns and answers change.
-use Rattle.std.proofs.Common.{◌≡◌, ℕ, ◌+◌, Bool, true, false, List, [], ◌∷◌, ◌++◌, Option, None, Some, refl, sym, ap, ◌∙◌}
+use Rattle.std.proofs.Common.{◌≡◌, ℕ, ◌+◌, Bool, true, false, List, Option, None, Some, refl, ap, ◌∙◌}
 use Rattle.std.specs.Prelude.{slice_get}
 use Rattle.std.specs.Option.{option_map}
 use Rattle.write_retry.specs.declared.attempt_end.AttemptEnd.{AttemptEnd}
@@ -8,11 +8,11 @@ use Rattle.desk_trail.specs.declared.entry.LookedHow.{LookedHow}
 use Rattle.desk_trail.specs.declared.request.Purpose.{Purpose}
 use Rattle.desk_trail.specs.declared.request.Purpose.TheVariants as purpose
 use Rattle.desk_trail.specs.Attempts.{OfCommand, asked_by, command_step, commands_after, end_by, with_event}
-use Rattle.desk_trail.specs.Checks.{kept_at, stream_taken}
+use Rattle.desk_trail.specs.Checks.{kept_at}
 use Rattle.desk_trail.specs.Clients.{Client}
 use Rattle.desk_trail.specs.Facts.{Fact}
 use Rattle.desk_trail.specs.Facts as fact
-use Rattle.desk_trail.specs.Legal.{changed_by, client_after, ends_by, pool_after}
+use Rattle.desk_trail.specs.Legal.{changed_by, client_after, pool_after}
 use Rattle.desk_trail.specs.Looks.{look_asks, look_by}
 use Rattle.desk_trail.specs.Pools.{check_out_after, conn_streams_after, dials_by, has_by, pool_step, pools_after, waits_now}
 use Rattle.desk_trail.specs.Requests.{farewell_by}

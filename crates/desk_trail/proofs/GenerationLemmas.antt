@@ -1,17 +1,17 @@
 -- A lent connection is of the generation that its pool has as it is lent.
-use Rattle.std.proofs.Common.{◌≡◌, ℕ, ◌+◌, Bool, true, false, cond, eqb, List, [], ◌∷◌, ◌++◌, map, Option, None, Some, refl, sym, ap, ◌∙◌, subst}
+use Rattle.std.proofs.Common.{◌≡◌, ℕ, List, [], ◌∷◌, ◌++◌, Some, refl, sym, ap, ◌∙◌, subst}
 use Rattle.std.specs.Prelude.{slice_get, All}
 use Rattle.std.specs.Bool.{◌==◌}
-use Rattle.std.specs.List.{find, position_or_len}
+use Rattle.std.specs.List.{position_or_len}
 use Rattle.std.proofs.lemmas.List.Folds.{find_at}
 use Rattle.std.proofs.lemmas.Option.{slice_get_within, get_or_from_slice_get}
 use Rattle.entry_judge.specs.declared.timed.Timed.{Timed}
 use Rattle.entry_judge.specs.Groups.{Place, entries_of}
 use Rattle.entry_judge.specs.Judge.{state_after}
 use Rattle.entry_judge.specs.LegalLaws.{state_after-append}
-use Rattle.pool_book.specs.Entries.{PoolEntry, Ready, Clear, Shut, Entered, Left, Lent, Dialled, Settled, NotLent, CheckedIn, ConnShut}
+use Rattle.pool_book.specs.Entries.{PoolEntry, Lent, NotLent, ConnShut}
 use Rattle.pool_book.specs.Judge.{IsTrail, entries_and_owed, place_behind, pool_behind}
-use Rattle.pool_book.specs.Laws.{IsFree, generation_of, none_begun}
+use Rattle.pool_book.specs.Laws.{generation_of, none_begun}
 use Rattle.pool_book.specs.Pool.{Pool, held_of}
 use Rattle.pool_book.specs.Readings.{Beginnings, dials_by, generation_by}
 use Rattle.pool_book.specs.declared.connections.Held.{Held}
@@ -19,7 +19,7 @@ use Rattle.pool_book.specs.declared.rules.PoolRules.{PoolRules}
 use Rattle.desk_trail.specs.Clients.{Client, pool_rules}
 use Rattle.desk_trail.specs.Facts.{Fact}
 use Rattle.desk_trail.specs.Facts as fact
-use Rattle.desk_trail.specs.Legal.{AreLegal, Point, beginning, point_behind}
+use Rattle.desk_trail.specs.Legal.{AreLegal, beginning, point_behind}
 use Rattle.desk_trail.specs.Parts.{of_pool, pool_part, pool_tells}
 use Rattle.desk_trail.specs.Pools.{ticket_with}
 use Rattle.desk_trail.specs.States.{ServerState}
@@ -27,7 +27,7 @@ use Rattle.desk_trail.proofs.CheckOutLemmas.{out_at}
 use Rattle.desk_trail.proofs.HeldLemmas.{AllOk, held-conn}
 use Rattle.desk_trail.proofs.LentFreeLemmas.{LentWasFree, own-entry, told_from-more}
 use Rattle.desk_trail.proofs.OrderLemmas.{last-stands}
-use Rattle.desk_trail.proofs.PoolLemmas.{pool-leads, pool-place, pool_at, pool_or}
+use Rattle.desk_trail.proofs.PoolLemmas.{pool-leads, pool-place, pool_or}
 use Rattle.desk_trail.proofs.WhereLemmas.{StandsOnce, meets, named}
 
 -- ---- What must come next of a pool clears nothing and dials nothing

@@ -1,6 +1,6 @@
 -- Each session that is out is one command's.
-use Rattle.std.proofs.Common.{◌≡◌, ◌≤◌, ◌<◌, ℕ, zero, suc, ◌+◌, Bool, true, false, cond, eqb, List, [], ◌∷◌, ◌++◌, length, map, take, Option, None, Some, refl, sym, ap, ◌∙◌, subst, arith, ◌⊎◌, inl, inr}
-use Rattle.std.specs.Prelude.{ℤ, pos, slice_get, slice_set, is_some}
+use Rattle.std.proofs.Common.{◌≡◌, ℕ, zero, suc, Bool, true, false, List, [], ◌∷◌, ◌++◌, length, map, take, Option, None, Some, refl, sym, ap, ◌∙◌, subst, inl, inr}
+use Rattle.std.specs.Prelude.{ℤ, pos, slice_get}
 use Rattle.std.specs.Option.{option_map, option_and_then}
 use Rattle.std.proofs.lemmas.Bool.{eq-eqb}
 use Rattle.std.proofs.lemmas.Bool.Decides.{eqb_tells}
@@ -8,13 +8,12 @@ use Rattle.std.proofs.lemmas.Option.{slice_get-map}
 use Rattle.bson_doc.specs.declared.ids.Lsid.{Lsid}
 use Rattle.cmd_build.specs.declared.command.Command.{Command}
 use Rattle.entry_judge.specs.declared.timed.Timed.{Timed}
-use Rattle.entry_judge.specs.Groups.{Place, Stands, next_place, nothing_owed, place_behind}
-use Rattle.entry_judge.specs.Judge.{Legal, state_after}
+use Rattle.entry_judge.specs.Groups.{Place, next_place, nothing_owed, place_behind}
+use Rattle.entry_judge.specs.Judge.{state_after}
 use Rattle.sess_book.specs.Entries.{MayStand, SessEntry, after, sessions_judge, set_at, with_session}
 use Rattle.sess_book.specs.Entries as session
 use Rattle.sess_book.specs.Laws.{IsHeldByNobody, IsHistory, leases}
 use Rattle.sess_book.specs.Sessions.{Sessions, no_sessions}
-use Rattle.sess_book.specs.declared.session.Holding.{Holding}
 use Rattle.sess_book.specs.declared.session.Holding.TheVariants as holding
 use Rattle.sess_book.specs.declared.session.Session.{Session}
 use Rattle.desk_trail.specs.declared.entry.LookedHow.{LookedHow}
@@ -23,7 +22,7 @@ use Rattle.desk_trail.specs.Attempts.{finished}
 use Rattle.desk_trail.specs.Clients.{Client}
 use Rattle.desk_trail.specs.Facts.{Fact}
 use Rattle.desk_trail.specs.Facts as fact
-use Rattle.desk_trail.specs.Leases.{IsIdAt, IsLease, SessionAllows, lease_step, minutes_needed, session_held, session_step_of, sessions_by}
+use Rattle.desk_trail.specs.Leases.{IsIdAt, SessionAllows, lease_step, minutes_needed, session_held, session_step_of, sessions_by}
 use Rattle.desk_trail.specs.Legal.{AreLegal, Point, StandsAt, beginning, client_after, point_after, point_behind}
 use Rattle.desk_trail.specs.Looks.{look_by}
 use Rattle.desk_trail.specs.Parts.{of_sessions, session_part, session_step, session_tells}

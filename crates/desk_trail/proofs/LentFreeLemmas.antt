@@ -1,12 +1,10 @@
 -- A connection that is lent was nobody's, and is of the generation of its pool.
-use Rattle.std.proofs.Common.{◌≡◌, ℕ, Bool, true, false, cond, eqb, List, [], ◌∷◌, ◌++◌, Option, None, Some, refl, sym, ap, ◌∙◌, subst}
-use Rattle.std.specs.Prelude.{slice_get}
+use Rattle.std.proofs.Common.{◌≡◌, ℕ, List, [], ◌∷◌, ◌++◌, Some, refl, sym, ap, ◌∙◌, subst}
 use Rattle.std.proofs.lemmas.Bool.{eq-eqb}
 use Rattle.std.proofs.lemmas.List.{append-nil, append_assoc}
 use Rattle.entry_judge.specs.declared.timed.Timed.{Timed}
 use Rattle.entry_judge.specs.Groups.{entries_of}
-use Rattle.entry_judge.specs.Judge.{Legal, state_after}
-use Rattle.entry_judge.specs.LegalLaws.{Legal-front}
+use Rattle.entry_judge.specs.Judge.{state_after}
 use Rattle.pool_book.specs.Entries.{PoolEntry}
 use Rattle.pool_book.specs.Entries as pool
 use Rattle.pool_book.specs.Judge.{IsTrail}
@@ -15,9 +13,9 @@ use Rattle.pool_book.specs.declared.rules.PoolRules.{PoolRules}
 use Rattle.desk_trail.specs.Clients.{Client, pool_rules}
 use Rattle.desk_trail.specs.Facts.{Fact}
 use Rattle.desk_trail.specs.Facts as fact
-use Rattle.desk_trail.specs.Legal.{AreLegal, Point, StandsAt, beginning, point_after, point_behind}
-use Rattle.desk_trail.specs.Parts.{of_pool, pool_part, pool_tells, told, told_from}
-use Rattle.desk_trail.specs.Pools.{pool_step, ticket_with}
+use Rattle.desk_trail.specs.Legal.{AreLegal, Point, beginning, point_after, point_behind}
+use Rattle.desk_trail.specs.Parts.{of_pool, pool_part, pool_tells, told_from}
+use Rattle.desk_trail.specs.Pools.{ticket_with}
 use Rattle.desk_trail.proofs.CheckOutLemmas.{out_at}
 use Rattle.desk_trail.proofs.OrderLemmas.{last-stands}
 use Rattle.desk_trail.proofs.PoolLemmas.{pool-leads}

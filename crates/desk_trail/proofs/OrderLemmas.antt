@@ -1,13 +1,13 @@
 -- Moments, what must come next, and longer lists.
 use Rattle.std.proofs.Common.{◌≡◌, ◌≤◌, ℕ, zero, suc, Bool, true, false, ◌&&◌, List, [], ◌∷◌, ◌++◌, length, take, drop, Option, None, Some, refl, sym, ap, ◌∙◌, subst, arith, ◌⊎◌, inl, inr}
-use Rattle.std.specs.Prelude.{slice_get, filter_map, is_some}
+use Rattle.std.specs.Prelude.{slice_get, is_some}
 use Rattle.std.specs.Option.{option_map}
 use Rattle.std.specs.List.{list_all}
-use Rattle.std.proofs.lemmas.List.{append-nil, append_assoc}
+use Rattle.std.proofs.lemmas.List.{append_assoc}
 use Rattle.entry_judge.specs.declared.timed.Timed.{Timed}
 use Rattle.entry_judge.specs.Groups.{entries_of}
 use Rattle.entry_judge.specs.Judge.{Legal, state_after}
-use Rattle.entry_judge.specs.LegalLaws.{Legal-rest, state_after-append}
+use Rattle.entry_judge.specs.LegalLaws.{Legal-rest}
 use Rattle.entry_judge.specs.Moments.{NeverFalls}
 use Rattle.desk_trail.specs.declared.entry.Entry.{Entry}
 use Rattle.desk_trail.specs.declared.entry.Entry.TheVariants as entry
@@ -15,7 +15,7 @@ use Rattle.desk_trail.specs.declared.step.Step.{Step}
 use Rattle.desk_trail.specs.Clients.{Client}
 use Rattle.desk_trail.specs.Facts.{ArePlaced, Fact, Lists, fact_of, facts_of, timed_fact}
 use Rattle.desk_trail.specs.Facts as fact
-use Rattle.desk_trail.specs.Legal.{AreLegal, InTime, IsLegal, Point, StandsAt, beginning, owes, point_after, point_behind}
+use Rattle.desk_trail.specs.Legal.{InTime, Point, StandsAt, owes, point_after}
 use Rattle.desk_trail.specs.Orders.{ArePaid, Extends, is_time}
 use Rattle.desk_trail.specs.Owed.{InTurn, IsHead, IsOwed, Owed, left_owed}
 

@@ -1,18 +1,15 @@
 -- The entries of each host's pool are a trail of that pool, which leads to the pool that the client has.
-use Rattle.std.proofs.Common.{◌≡◌, ℕ, ◌+◌, Bool, true, false, cond, eqb, List, [], ◌∷◌, ◌++◌, length, map, Option, None, Some, refl, sym, ap, ◌∙◌, subst, arith, ◌⊎◌, inl, inr}
-use Rattle.std.specs.Prelude.{slice_get, ◌==◌, if◌then◌else◌}
+use Rattle.std.proofs.Common.{◌≡◌, ℕ, ◌+◌, Bool, true, false, List, [], ◌∷◌, ◌++◌, map, Option, None, Some, refl, sym, ap, ◌∙◌, subst, inl, inr}
+use Rattle.std.specs.Prelude.{slice_get, if◌then◌else◌}
 use Rattle.std.specs.Option.{option_map, option_and_then}
 use Rattle.std.proofs.lemmas.Bool.Decides.{eqb_tells}
 use Rattle.std.proofs.lemmas.Option.{slice_get-map}
 use Rattle.entry_judge.specs.declared.timed.Timed.{Timed}
-use Rattle.entry_judge.specs.Judge.{Legal, state_after}
-use Rattle.entry_judge.specs.LegalLaws.{Legal-append, state_after-append}
 use Rattle.entry_judge.specs.Groups.{Place, Stands, next_place, nothing_owed}
 use Rattle.pool_book.specs.Pool.{Pool, fresh_pool}
 use Rattle.pool_book.specs.Entries.{PoolEntry}
 use Rattle.pool_book.specs.Judge.{pool_judge, place_behind}
 use Rattle.topo_rules.specs.declared.event.TopoEvent.{TopoEvent}
-use Rattle.topo_rules.specs.declared.event.TopoEvent.TheVariants as event
 use Rattle.host_name.specs.Addresses.{Address}
 use Rattle.desk_trail.specs.declared.entry.CheckHow.{CheckHow}
 use Rattle.desk_trail.specs.declared.entry.CheckHow.TheVariants as how
@@ -20,19 +17,18 @@ use Rattle.desk_trail.specs.declared.entry.LookedHow.{LookedHow}
 use Rattle.desk_trail.specs.declared.entry.LookedHow.TheVariants as looked
 use Rattle.desk_trail.specs.declared.request.Purpose.{Purpose}
 use Rattle.desk_trail.specs.declared.request.Purpose.TheVariants as purpose
-use Rattle.desk_trail.specs.Attempts.{OfCommand, asked_by, command_step, commands_after, end_by, finished}
-use Rattle.desk_trail.specs.Checks.{all_asked, asked, check_begins, check_ends, is_known_at, kept_at, leaves, stream_taken, with_checks}
+use Rattle.desk_trail.specs.Attempts.{OfCommand, asked_by, command_step, commands_after}
+use Rattle.desk_trail.specs.Checks.{asked, check_begins, check_ends, is_known_at, kept_at, leaves, stream_taken, with_checks}
 use Rattle.watch_step.specs.Entries as check
 use Rattle.desk_trail.specs.Clients.{Client, pool_rules}
 use Rattle.desk_trail.specs.Facts.{Fact}
 use Rattle.desk_trail.specs.Facts as fact
-use Rattle.desk_trail.specs.Leases.{leased_after}
 use Rattle.desk_trail.specs.Legal.{AreLegal, MayStand, Point, StandsAt, beginning, changed_by, client_after, ends_by, point_after, point_behind, pool_after, stays_at}
-use Rattle.desk_trail.specs.Looks.{look_asks, looked_after}
+use Rattle.desk_trail.specs.Looks.{look_asks}
 use Rattle.desk_trail.specs.Parts.{of_pool, pool_part, pool_tells}
 use Rattle.desk_trail.specs.Pools.{OfHost, PoolAllows, check_out_after, conn_streams_after, pool_step, pools_after, with_pool}
 use Rattle.desk_trail.specs.Requests.{farewell_by}
-use Rattle.desk_trail.specs.States.{ClientState, ServerState, changed, number_of, fresh_client, fresh_server, with_server}
+use Rattle.desk_trail.specs.States.{ClientState, ServerState, changed, number_of, fresh_server}
 use Rattle.desk_trail.specs.Topologies.{asked_at, asks_of, offered_after, verdict_on, with_ask}
 use Rattle.topo_book.specs.Fresh.{is_accepted_verdict}
 use Rattle.desk_trail.proofs.PartLemmas.{Leads, told-leads}

@@ -1,25 +1,23 @@
 -- What an entry leaves as it is: the topology, the sessions, the commands.
-use Rattle.std.proofs.Common.{◌≡◌, ℕ, ◌+◌, Bool, true, false, List, [], ◌∷◌, ◌++◌, Option, None, Some, refl, sym, ap, ◌∙◌, subst}
+use Rattle.std.proofs.Common.{◌≡◌, ℕ, true, false, Option, None, Some, refl, ◌∙◌}
 use Rattle.std.specs.Prelude.{slice_get, if◌then◌else◌}
-use Rattle.std.specs.Option.{option_map, option_and_then}
-use Rattle.sess_book.specs.Sessions.{Sessions}
+use Rattle.std.specs.Option.{option_and_then}
 use Rattle.topo_rules.specs.declared.event.TopoEvent.{TopoEvent}
-use Rattle.topo_rules.specs.declared.topology.Topology.{Topology}
 use Rattle.topo_book.specs.Fresh.{is_accepted_verdict}
 use Rattle.desk_trail.specs.declared.entry.LookedHow.{LookedHow}
 use Rattle.desk_trail.specs.declared.entry.LookedHow.TheVariants as looked
 use Rattle.desk_trail.specs.declared.request.Purpose.{Purpose}
 use Rattle.desk_trail.specs.declared.request.Purpose.TheVariants as purpose
 use Rattle.desk_trail.specs.Attempts.{OfCommand, asked_by, commands_after}
-use Rattle.desk_trail.specs.Checks.{all_asked, asked, stream_taken}
+use Rattle.desk_trail.specs.Checks.{stream_taken}
 use Rattle.desk_trail.specs.Facts.{Fact}
 use Rattle.desk_trail.specs.Facts as fact
 use Rattle.desk_trail.specs.Legal.{ends_by, pool_after, stays_at}
 use Rattle.desk_trail.specs.Looks.{look_asks}
 use Rattle.desk_trail.specs.Pools.{OfHost, check_out_after, conn_streams_after, pool_step, pools_after}
 use Rattle.desk_trail.specs.Requests.{farewell_by}
-use Rattle.desk_trail.specs.States.{ClientState, CommandState, number_of}
-use Rattle.desk_trail.specs.Topologies.{asked_at, asks_of, offered_after, verdict_on, with_ask}
+use Rattle.desk_trail.specs.States.{ClientState, number_of}
+use Rattle.desk_trail.specs.Topologies.{asked_at, asks_of, verdict_on, with_ask}
 
 -- the topology and the sessions stay
 pub record Rest (w v : ClientState) : Type 0 where

@@ -1,34 +1,32 @@
 -- The topology of a trail is what its accepted events make of the opening; its sessions are where their entries lead.
 use Rattle.std.proofs.Common.{◌≡◌, ℕ, ◌+◌, Bool, true, false, List, [], ◌∷◌, ◌++◌, Option, None, Some, refl, sym, ap, ◌∙◌, subst}
-use Rattle.std.specs.Prelude.{slice_get, fold, flat_map, if◌then◌else◌}
+use Rattle.std.specs.Prelude.{slice_get, fold, if◌then◌else◌}
 use Rattle.std.specs.Option.{option_and_then}
 use Rattle.entry_judge.specs.declared.timed.Timed.{Timed}
 use Rattle.entry_judge.specs.Judge.{Legal, state_after}
-use Rattle.entry_judge.specs.Groups.{Place, Stands, next_place, nothing_owed}
+use Rattle.entry_judge.specs.Groups.{Stands, next_place, nothing_owed}
 use Rattle.sess_book.specs.Entries.{SessEntry, sessions_judge}
-use Rattle.sess_book.specs.Sessions.{Sessions, no_sessions}
+use Rattle.sess_book.specs.Sessions.{no_sessions}
 use Rattle.topo_rules.specs.Rules.{after}
 use Rattle.topo_rules.specs.declared.event.TopoEvent.{TopoEvent}
-use Rattle.topo_rules.specs.declared.topology.Topology.{Topology}
 use Rattle.topo_book.specs.Fresh.{is_accepted_verdict}
 use Rattle.topo_book.specs.declared.verdict.Verdict.{Verdict}
 use Rattle.topo_book.specs.declared.verdict.Verdict.TheVariants as verdict
 use Rattle.desk_trail.specs.declared.entry.OfferedHow.{OfferedHow}
 use Rattle.desk_trail.specs.declared.entry.OfferedHow.TheVariants as offered
-use Rattle.desk_trail.specs.Attempts.{asked_by, command_step, commands_after}
-use Rattle.desk_trail.specs.Checks.{kept_at, stream_taken}
+use Rattle.desk_trail.specs.Attempts.{command_step}
+use Rattle.desk_trail.specs.Checks.{kept_at}
 use Rattle.desk_trail.specs.Clients.{Client}
 use Rattle.desk_trail.specs.Facts.{Fact}
 use Rattle.desk_trail.specs.Facts as fact
-use Rattle.desk_trail.specs.Leases.{IsDraw, IsLease, IsReturn, SessionAllows, session_held, session_step_of, sessions_by}
-use Rattle.desk_trail.specs.Legal.{AreLegal, MayStand, Point, StandsAt, beginning, changed_by, client_after, ends_by, point_after, point_behind, pool_after}
-use Rattle.desk_trail.specs.Looks.{look_asks}
+use Rattle.desk_trail.specs.Leases.{SessionAllows, session_held, session_step_of, sessions_by}
+use Rattle.desk_trail.specs.Legal.{AreLegal, MayStand, Point, StandsAt, beginning, changed_by, point_after, point_behind, pool_after}
 use Rattle.desk_trail.specs.Parts.{accepted_in, accepted_of, of_sessions, session_part, session_step, session_tells}
 use Rattle.desk_trail.specs.Requests.{farewell_by}
 use Rattle.desk_trail.specs.States.{ClientState, CommandState}
-use Rattle.desk_trail.specs.Topologies.{Says, verdict_on, with_ask}
+use Rattle.desk_trail.specs.Topologies.{Says, verdict_on}
 use Rattle.desk_trail.proofs.PartLemmas.{Leads, told-leads}
-use Rattle.desk_trail.proofs.RestLemmas.{Beside-farewell_by, Beside-look_asks, Beside-offered, Beside-ends_by, Beside-stream_taken, Rest, Rest-asked_by, Rest-behind, Rest-commands_after, Rest-pool, Rest-refl}
+use Rattle.desk_trail.proofs.RestLemmas.{Beside-farewell_by, Beside-look_asks, Beside-offered, Beside-ends_by, Beside-stream_taken, Rest, Rest-asked_by, Rest-commands_after, Rest-pool, Rest-refl}
 
 -- ---- Entries that are neither of the topology nor of the sessions
 

@@ -1,6 +1,6 @@
 -- Along a legal trail each pool has the commands as they are.
 use Rattle.std.proofs.Common.{◌≡◌, ◌≤◌, ◌<◌, ℕ, ◌+◌, Bool, true, false, cond, eqb, List, [], ◌∷◌, ◌++◌, map, Option, None, Some, refl, sym, ap, ◌∙◌, subst, arith, ◌⊎◌, inl, inr}
-use Rattle.std.specs.Prelude.{slice_get, ◌==◌, ◌&&◌, if◌then◌else◌}
+use Rattle.std.specs.Prelude.{slice_get, ◌&&◌}
 use Rattle.std.specs.Option.{option_map, option_and_then}
 use Rattle.std.proofs.lemmas.Bool.{eq-eqb}
 use Rattle.std.proofs.lemmas.Bool.Decides.{eqb_tells}
@@ -22,13 +22,13 @@ use Rattle.desk_trail.specs.Clients.{Client, pool_rules}
 use Rattle.desk_trail.specs.Facts.{Fact}
 use Rattle.desk_trail.specs.Facts as fact
 use Rattle.desk_trail.specs.Holds.{DialsAt, HasAt, IsHeldBy, WaitsAt}
-use Rattle.desk_trail.specs.Legal.{AreLegal, MayStand, Point, StandsAt, beginning, point_after, point_behind}
-use Rattle.desk_trail.specs.Parts.{of_pool, pool_part}
+use Rattle.desk_trail.specs.Legal.{AreLegal, MayStand, Point, beginning, point_after, point_behind}
+use Rattle.desk_trail.specs.Parts.{pool_part}
 use Rattle.desk_trail.specs.Pools.{PoolAllows, at_host, dials_by, has_by, lost_with, not_lent_with, pool_step, ticket_dialling, ticket_having, ticket_with}
 use Rattle.desk_trail.specs.States.{CheckOut, ClientState, CommandState, Dials, Has, Nothing, ServerState, Waits, fresh_command}
-use Rattle.desk_trail.proofs.CheckOutLemmas.{Acting, Enters, Frees, HoldsIn, Matched, Moves, Tick, acts_as, dials-on, has-on, holds-on, matched-acting, matched-alone, matched-on, moved, moved_by, out-step, out_at, out_in, was}
+use Rattle.desk_trail.proofs.CheckOutLemmas.{Enters, Frees, HoldsIn, Matched, Moves, Tick, acts_as, dials-on, has-on, holds-on, matched-acting, matched-alone, matched-on, moved, moved_by, out-step, out_at, out_in, was}
 use Rattle.desk_trail.proofs.HeldLemmas.{AllOk, IsDialling, IsOnce, IsWaiting, dialled-behind, entered-behind, lent-behind}
-use Rattle.desk_trail.proofs.PartLemmas.{Further, Leads, along}
+use Rattle.desk_trail.proofs.PartLemmas.{Leads, along}
 use Rattle.desk_trail.proofs.PoolLemmas.{PoolLeads, pool-leads, pool-step-leads, pool_at, pool_or}
 
 -- ---- How an entry of a pool moves the pools

@@ -37,8 +37,10 @@ pub fn each_answer_is_the_verdict_on_the_attempts()
     write_retry::laws::answers_are_verdicts();
 }
 
-/// Behind its answer no entry is of a command, the return of its session aside: so it is answered once.
+/// Behind its answer no entry is of a command, the return of its session aside; so it is answered once.
 pub fn behind_its_answer_no_entry_is_of_a_command()
-    ensures { (client : Client) (xs ys : List (Timed Fact)) (moment op : ℕ) (outcome : Outcome) (t : Timed Fact)
+    ensures no_more { (client : Client) (xs ys : List (Timed Fact)) (moment op : ℕ) (outcome : Outcome) (t : Timed Fact)
         → AreLegal client (xs ++ record { at = moment; what = fact.Finished op outcome } ∷ (ys ++ t ∷ [])) → is_of op t.what ≡ false }
+    ensures once { (client : Client) (xs ys : List (Timed Fact)) (first second op : ℕ) (outcome other : Outcome)
+        → AreLegal client (xs ++ record { at = first; what = fact.Finished op outcome } ∷ (ys ++ record { at = second; what = fact.Finished op other } ∷ [])) → ⊥ }
 {}

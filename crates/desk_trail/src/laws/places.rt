@@ -1,12 +1,12 @@
 //! Which trails are legal, place by place; what must come next, and when.
-ghost use Rattle.std.specs.Prelude.{◌≡◌, ℕ, false, Some, List, [], ◌∷◌, ◌++◌, map, slice_get, take};
+ghost use Rattle.std.specs.Prelude.{◌≡◌, ℕ, false, Some, List, [], ◌∷◌, ◌++◌, slice_get, take};
 ghost use Rattle.entry_judge.specs.declared.timed.Timed.{Timed};
 ghost use Rattle.entry_judge.specs.Groups.{entries_of};
 ghost use Rattle.entry_judge.specs.Moments.{NeverFalls};
 ghost use Rattle.desk_trail.specs.declared.step.Step.{Step};
 ghost use Rattle.desk_trail.specs.Clients.{Client};
-ghost use Rattle.desk_trail.specs.Facts.{Fact, Lists};
-ghost use Rattle.desk_trail.specs.Legal.{AreLegal, IsComplete, IsLegal, StandsAt, point_behind};
+ghost use Rattle.desk_trail.specs.Facts.{Fact, Lists, facts_of};
+ghost use Rattle.desk_trail.specs.Legal.{AreLegal, IsLegal, StandsAt, point_behind};
 ghost use Rattle.desk_trail.specs.Orders.{ArePaid, Extends, is_time};
 ghost use Rattle.desk_trail.specs.Owed.{IsHead, IsOwed, Owed};
 
@@ -27,8 +27,10 @@ pub fn the_front_of_a_legal_trail_is_legal()
 
 /// A legal trail is legal by longer lists too, and by them tells the same.
 pub fn a_legal_trail_is_legal_by_longer_lists()
-    ensures { (client : Client) (old new : Lists) (steps : List Step)
+    ensures legal { (client : Client) (old new : Lists) (steps : List Step)
         → Extends old new → IsLegal client old steps → IsLegal client new steps }
+    ensures same { (client : Client) (old new : Lists) (steps : List Step)
+        → Extends old new → IsLegal client old steps → facts_of new steps ≡ facts_of old steps }
 {}
 
 /// No entry's moment is below that of the entry ahead of it, and the first one's not below the moment at which the client

@@ -25,8 +25,8 @@ pub fn each_pool_has_its_trail()
         → s.pool ≡ place_behind (pool_rules client) (pool_part client host ts) }
 {}
 
-/// A command that waits for a connection waits in the pool that it asked; one that dialled a connection has it pending there;
-/// and one to which a connection is lent has it lent by that pool.
+/// A command that waits for a connection waits in the pool that it asked; one that dialled a connection has it pending there,
+/// where nothing must come next of that pool; and one to which a connection is lent has it lent by that pool.
 pub fn each_command_is_where_its_pool_has_it()
     ensures waits { (client : Client) (ts : List (Timed Fact)) (op : ℕ) (c : CommandState) (host ticket : ℕ) → AreLegal client ts
         → slice_get (point_behind client ts).state.commands op ≡ Some c → c.check_out ≡ Waits host ticket
@@ -41,7 +41,7 @@ pub fn each_command_is_where_its_pool_has_it()
     pool_book::laws::each_connection_stands_once();
 }
 
-/// Two commands have no ticket of one host in common: so each ticket that a pool has is one command's.
+/// Two commands have no ticket of one host in common, so a pool's ticket is at most one command's.
 pub fn no_two_commands_have_one_ticket()
     ensures { (client : Client) (ts : List (Timed Fact)) (a b : ℕ) (x y : CommandState) (host ticket : ℕ) → AreLegal client ts
         → slice_get (point_behind client ts).state.commands a ≡ Some x → slice_get (point_behind client ts).state.commands b ≡ Some y

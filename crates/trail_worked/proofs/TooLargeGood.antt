@@ -1,13 +1,12 @@
 -- The trail of TooLarge stands, entry by entry.
 use Rattle.std.proofs.Common.{true, [], ◌∷◌, None, Some, refl, inl, arith, take}
-use Rattle.trail_worked.specs.Words.{at, host}
 use Rattle.trail_worked.proofs.Rules.{start, looks, offers}
 use Rattle.trail_worked.proofs.Spots.{AreGood, spot_behind}
 use Rattle.topo_rules.specs.declared.event.TopoEvent.TheVariants as event
 use Rattle.desk_trail.specs.declared.entry.OfferedHow.TheVariants as offered
 use Rattle.server_pick.specs.declared.criteria.Need.TheVariants as need
 use Rattle.trail_worked.specs.OneInsert.{alone, client_of_one}
-use Rattle.trail_worked.specs.TooLarge.{narrow, too_large}
+use Rattle.trail_worked.specs.TooLarge.{small, too_large}
 
 pub good : AreGood client_of_one (start client_of_one) too_large
 good =
@@ -15,7 +14,7 @@ good =
     (record { time = omega arith; turn = tt; going = tt; rule = (_, refl, (record { stays = refl; rests = refl; due = omega arith }, refl)); command = tt },
     (record { time = refl; turn = record { on = refl; is_for = refl; bytes = refl }; going = tt; rule = record { next = refl; id = refl; is_for = tt }; command = tt },
     (record { time = omega arith; turn = tt; going = tt; rule = (_, refl, (0, record { stays = refl; since = refl }, refl)); command = tt },
-    (record { time = refl; turn = record { description = narrow; says = refl; of_host = refl }; going = tt; rule = offers (spot_behind client_of_one (start client_of_one) (take 4 too_large)) 0 (event.Reply narrow 100) (offered.Accepted true) refl (λ h. absurd (cc), λ s. let k = s.kind in absurd (cc)); command = tt },
+    (record { time = refl; turn = record { description = small; says = refl; of_host = refl }; going = tt; rule = offers (spot_behind client_of_one (start client_of_one) (take 4 too_large)) 0 (event.Reply small 100) (offered.Accepted true) refl (λ h. absurd (cc), λ s. let k = s.kind in absurd (cc)); command = tt },
     (record { time = refl; turn = refl; going = tt; rule = (_, refl, refl); command = tt },
     (record { time = omega arith; turn = tt; going = tt; rule = ((_, refl, refl), looks client_of_one (spot_behind client_of_one (start client_of_one) (take 6 too_large)).point.state (spot_behind client_of_one (start client_of_one) (take 6 too_large)).listed 200 0 7 8 (0 ∷ []) _ (record { command = _; given = refl; running = _; there = refl; criteria = record { need = need.Write; avoid = None; threshold_micros = 15000 }; asks = record { needs = refl; avoids = refl; within = refl }; addresses = alone ∷ []; numbers = (refl, tt); sublist = inl (refl, tt); concludes = refl })); command = (_, refl, refl) },
     (record { time = omega arith; turn = tt; going = tt; rule = ((_, refl, record { chose = refl; free = refl; equipped = record { session = refl; number = refl } }), (_, refl, refl)); command = tt },

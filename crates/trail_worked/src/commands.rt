@@ -1,5 +1,5 @@
 //! Stories of commands: from a look for a server to the answer.
-ghost use Rattle.std.specs.Prelude.{pos, true, false, [], ◌∷◌, Some};
+ghost use Rattle.std.specs.Prelude.{◌≡◌, pos, true, false, [], ◌∷◌, Some};
 ghost use Rattle.desk_trail.specs.Legal.{AreLegal, IsLegal, IsComplete};
 ghost use Rattle.trail_worked.specs.Words.{at, instead, put_in, left_out, request, ArePaid};
 ghost use Rattle.topo_rules.specs.declared.event.TopoEvent.TheVariants as event;
@@ -7,9 +7,9 @@ ghost use Rattle.write_retry.specs.declared.outcome.Outcome.TheVariants as outco
 ghost use Rattle.desk_trail.specs.declared.entry.LookedHow.TheVariants as looked;
 ghost use Rattle.desk_trail.specs.declared.entry.OfferedHow.TheVariants as offered;
 ghost use Rattle.desk_trail.specs.Facts as fact;
-ghost use Rattle.trail_worked.specs.OneInsert.{client_of_one, standalone, insert_bytes, one_insert, lists, steps};
+ghost use Rattle.trail_worked.specs.OneInsert.{client_of_one, standalone, insert_bytes, one_insert, insert_message, lists, steps};
 ghost use Rattle.trail_worked.specs.HandedOn.{client_of_three, handed_on};
-ghost use Rattle.trail_worked.specs.LeasedAgain.{client_of_two, other_id, leased_again};
+ghost use Rattle.trail_worked.specs.LeasedAgain.{client_of_two, other_id, numbered_bytes, leased_again};
 ghost use Rattle.trail_worked.specs.Failover.{first, second, client_of_set, primary, failover};
 ghost use Rattle.trail_worked.specs.TooLarge.{too_large};
 
@@ -18,6 +18,7 @@ pub fn one_insert_with_its_check()
     ensures legal { AreLegal client_of_one one_insert }
     ensures complete { ArePaid client_of_one one_insert }
     ensures step_by_step { IsLegal client_of_one lists steps }
+    ensures its_bytes { insert_bytes (pos 3) ≡ insert_message }
     ensures none_left { IsComplete client_of_one lists steps }
     ensures a_second_check_while_one_runs { AreLegal client_of_one (put_in one_insert 3 (at 50 (fact.CheckBegan 0 3))) → ⊥ }
     ensures an_event_offered_twice { AreLegal client_of_one (put_in one_insert 6 (at 100 (fact.Offered 1 (event.Reply standalone 100) (offered.Accepted false)))) → ⊥ }
@@ -56,6 +57,7 @@ pub fn a_failover_with_a_retry()
     ensures legal { AreLegal client_of_set failover }
     ensures complete { ArePaid client_of_set failover }
     ensures a_second_number_for_the_retry { AreLegal client_of_set (put_in failover 32 (at 500400 (fact.Drew 0 (pos 2)))) → ⊥ }
+    ensures another_number_in_the_request_of_the_retry { AreLegal client_of_set (instead failover 37 (at 500500 (fact.Asked 6 (request 0 4 (pos 7) (numbered_bytes (pos 7) (pos 2)))))) → ⊥ }
     ensures answered_without_a_retry { AreLegal client_of_set (instead failover 26 (at 500 (fact.Finished 0 outcome.Network))) → ⊥ }
     ensures a_pool_that_is_not_cleared { AreLegal client_of_set (left_out failover 23) → ⊥ }
     ensures an_error_that_is_not_offered { AreLegal client_of_set (left_out failover 22) → ⊥ }

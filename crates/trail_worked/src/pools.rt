@@ -22,7 +22,7 @@ pub fn a_pool_is_cleared()
     ensures complete { ArePaid client_of_cleared pool_cleared }
     ensures a_connection_of_the_old_generation_lent { AreLegal client_of_cleared (instead pool_cleared 27 (at 10000400 (fact.Settled 1 0 2 false))) → ⊥ }
     ensures dialled_while_the_pool_is_paused { AreLegal client_of_cleared (instead pool_cleared 24 (at 10000300 (fact.Dialled 2 0 3 (Some 4)))) → ⊥ }
-    ensures waits_for_its_time_in_a_cleared_pool { AreLegal client_of_cleared (instead pool_cleared 24 (at 40000500 (fact.NotLent 2 0 unsent.PoolLate))) → ⊥ }
+    ensures refused_as_late_in_a_cleared_pool { AreLegal client_of_cleared (instead pool_cleared 24 (at 40000500 (fact.NotLent 2 0 unsent.PoolLate))) → ⊥ }
     ensures an_attempt_that_does_not_end { AreLegal client_of_cleared (left_out pool_cleared 25) → ⊥ }
     ensures a_stale_connection_kept_at_check_in { AreLegal client_of_cleared (left_out pool_cleared 34) → ⊥ }
     ensures a_stale_connection_shut_as_errored { AreLegal client_of_cleared (instead pool_cleared 28 (at 10000400 (fact.ConnShut 0 2 reason.Errored))) → ⊥ }
@@ -60,6 +60,6 @@ pub fn a_dial_fails()
     ensures an_attempt_that_does_not_end { AreLegal client_of_one (left_out dial_failed 10) → ⊥ }
     ensures an_error_that_is_not_offered { AreLegal client_of_one (left_out dial_failed 12) → ⊥ }
     ensures offered_as_stale { AreLegal client_of_one (instead dial_failed 12 (at 200 (fact.Offered 1 (event.Broken alone (Some 0)) offered.StaleGeneration))) → ⊥ }
-    ensures dialled_again_by_the_same_command { AreLegal client_of_one (instead dial_failed 14 (at 200 (fact.Dialled 0 0 2 (Some 3)))) → ⊥ }
+    ensures dialled_again_without_a_ticket { AreLegal client_of_one (instead dial_failed 14 (at 200 (fact.Dialled 0 0 2 (Some 3)))) → ⊥ }
     ensures answered_as_cleared { AreLegal client_of_one (instead dial_failed 14 (at 200 (fact.Finished 0 (outcome.PoolCleared 1)))) → ⊥ }
 {}

@@ -21,8 +21,8 @@ returns-clause-a_connection_of_the_old_generation_lent c = refused client_of_cle
 pub returns-clause-dialled_while_the_pool_is_paused : goal.returns-clause-dialled_while_the_pool_is_paused
 returns-clause-dialled_while_the_pool_is_paused c = refused client_of_cleared (instead pool_cleared 24 (at 10000300 (fact.Dialled 2 0 3 (Some 4)))) 24 _ refl (λ s. clash_bool (sym (known_first (known s.rule.1 refl) refl)))
 
-pub returns-clause-waits_for_its_time_in_a_cleared_pool : goal.returns-clause-waits_for_its_time_in_a_cleared_pool
-returns-clause-waits_for_its_time_in_a_cleared_pool c = refused client_of_cleared (instead pool_cleared 24 (at 40000500 (fact.NotLent 2 0 unsent.PoolLate))) 24 _ refl (λ s. clash_bool (known (known s.rule refl) refl).1)
+pub returns-clause-refused_as_late_in_a_cleared_pool : goal.returns-clause-refused_as_late_in_a_cleared_pool
+returns-clause-refused_as_late_in_a_cleared_pool c = refused client_of_cleared (instead pool_cleared 24 (at 40000500 (fact.NotLent 2 0 unsent.PoolLate))) 24 _ refl (λ s. clash_bool (known (known s.rule refl) refl).1)
 
 pub returns-clause-an_attempt_that_does_not_end : goal.returns-clause-an_attempt_that_does_not_end
 returns-clause-an_attempt_that_does_not_end c = refused client_of_cleared (left_out pool_cleared 25) 25 _ refl (λ s. s.turn)

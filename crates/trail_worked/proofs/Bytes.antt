@@ -23,7 +23,6 @@ use Rattle.trail_worked.proofs.Where.{clash}
 str : (t : List ℕ) → payload (value.Str t) ≡ (kinds.Plain plain.Str, string t)
 str t = payload-Str (value.Str t) t refl
 
-
 -- one item of an array, under that name
 abbrev items : List ℕ → Payload
 items name = (kinds.Array, document (element name (kinds.Doc, document []) ++ []))
@@ -57,7 +56,7 @@ with_fields rest =
 
 front : (rest : List ℕ) →
     fields (payload (value.Str (codes "things"))) (payload (Array (Doc (record { elements = [] }) ∷ []))) (payload (value.Bool true))
-        (payload (Doc majority)) (payload (value.Str (codes "1"))) (payload (value.Str (codes "test"))) rest
+    (payload (Doc majority)) (payload (value.Str (codes "1"))) (payload (value.Str (codes "test"))) rest
     ≡ with_fields rest
 front rest = λ i. fields (str (codes "things") i) (docs i) (payload-Bool (value.Bool true) true refl i) (concern i) (str (codes "1") i) (str (codes "test") i) rest
 
@@ -73,7 +72,7 @@ module _ (mode : Option Mode) (read : Option (Bor Preference)) where
   spelled-numbered : (id : Lsid) (number : ℤ) →
       spelled (command_document an_insert (codes "test") (record { lsid = Some id; number = Some number; mode = mode; read = read }) None)
       ≡ with_fields (element (codes "lsid") (kinds.Doc, document (element (codes "id") (kinds.Plain plain.Binary, binary 4 id.0) ++ []))
-          ++ (element (codes "txnNumber") (kinds.Plain plain.Int64, int64 number) ++ []))
+      ++ (element (codes "txnNumber") (kinds.Plain plain.Int64, int64 number) ++ []))
   spelled-numbered id number = front _ ∙ (λ i.
       with_fields (element (codes "lsid") (of_session id i) ++ (element (codes "txnNumber") (payload-Int64 (value.Int64 number) number refl i) ++ [])))
 
@@ -89,7 +88,7 @@ module _ (mode : Option Mode) (read : Option (Bor Preference)) where
 
   pub fits_numbered : (id : Lsid) (number : ℤ) →
       not_over (with_fields (element (codes "lsid") (kinds.Doc, document (element (codes "id") (kinds.Plain plain.Binary, binary 4 id.0) ++ []))
-          ++ (element (codes "txnNumber") (kinds.Plain plain.Int64, int64 number) ++ []))) ≡ None →
+      ++ (element (codes "txnNumber") (kinds.Plain plain.Int64, int64 number) ++ []))) ≡ None →
       excess an_insert (codes "test") (record { lsid = Some id; number = Some number; mode = mode; read = read }) None (record { max_doc = 16777216; max_message = 48000000 }) ≡ None
   fits_numbered id number e = ap not_over (spelled-numbered id number) ∙ e
 
@@ -105,7 +104,7 @@ lowest_of_number bytes = get_or bytes 192 0
 numbered-literal : (id number : ℤ) (mode : Option Mode) (read : Option (Bor Preference)) →
     frame id (pos 0) 0 (command_document an_insert (codes "test") (record { lsid = Some session_id; number = Some number; mode = mode; read = read }) None)
     ≡ framing id (pos 0) 0 (with_fields (element (codes "lsid") (kinds.Doc, document (element (codes "id") (kinds.Plain plain.Binary, binary 4 session_id.0) ++ []))
-        ++ (element (codes "txnNumber") (kinds.Plain plain.Int64, int64 number) ++ [])))
+    ++ (element (codes "txnNumber") (kinds.Plain plain.Int64, int64 number) ++ [])))
 unfolding frame
 numbered-literal id number mode read = ap (λ bytes. framing id (pos 0) 0 bytes) (spelled-numbered mode read session_id number)
 

@@ -12,47 +12,130 @@ use Rattle.trail_worked.specs.LeasedAgain.{session_id}
 use Rattle.trail_worked.specs.Failover.{first, second, client_of_set, primary, secondary, failover}
 
 pub good : AreGood client_of_set (start client_of_set) failover
-good =
-    (record { time = refl; turn = refl; going = tt; rule = refl; command = tt },
-    (record { time = omega arith; turn = tt; going = tt; rule = (_, refl, (record { stays = refl; rests = refl; due = omega arith }, refl)); command = tt },
-    (record { time = refl; turn = record { on = refl; is_for = refl; bytes = refl }; going = tt; rule = record { next = refl; id = refl; is_for = tt }; command = tt },
-    (record { time = omega arith; turn = tt; going = tt; rule = (_, refl, (0, record { stays = refl; since = refl }, refl)); command = tt },
-    (record { time = refl; turn = record { description = primary first; says = refl; of_host = refl }; going = tt; rule = offers (spot_behind client_of_set (start client_of_set) (take 4 failover)) 0 (event.Reply (primary first) 100) (offered.Accepted true) refl (λ h. absurd (cc), λ s. let k = s.kind in absurd (cc)); command = tt },
-    (record { time = refl; turn = refl; going = tt; rule = refl; command = tt },
-    (record { time = refl; turn = refl; going = tt; rule = (_, refl, refl); command = tt },
-    (record { time = omega arith; turn = tt; going = tt; rule = (_, refl, (record { stays = refl; rests = refl; due = omega arith }, refl)); command = tt },
-    (record { time = refl; turn = record { on = refl; is_for = refl; bytes = refl }; going = tt; rule = record { next = refl; id = refl; is_for = tt }; command = tt },
-    (record { time = omega arith; turn = tt; going = tt; rule = (_, refl, (110, record { stays = refl; since = refl }, refl)); command = tt },
-    (record { time = refl; turn = record { description = secondary; says = refl; of_host = refl }; going = tt; rule = offers (spot_behind client_of_set (start client_of_set) (take 10 failover)) 1 (event.Reply secondary 90) (offered.Accepted true) refl (λ h. absurd (cc), λ s. let k = ap kinds_of s.servers in absurd (cc)); command = tt },
-    (record { time = refl; turn = refl; going = tt; rule = (_, refl, refl); command = tt },
-    (record { time = omega arith; turn = tt; going = tt; rule = ((_, refl, refl), looks client_of_set (spot_behind client_of_set (start client_of_set) (take 12 failover)).point.state (spot_behind client_of_set (start client_of_set) (take 12 failover)).listed 300 0 7 8 (0 ∷ []) _ (record { command = _; given = refl; running = _; there = refl; criteria = record { need = need.Write; avoid = None; threshold_micros = 15000 }; asks = record { needs = refl; avoids = refl; within = refl }; addresses = first ∷ []; numbers = (refl, tt); sublist = inl (refl, tt); concludes = refl })); command = (_, refl, refl) },
-    (record { time = omega arith; turn = tt; going = tt; rule = record { running = _; there = refl; chose = refl; session = (omega arith, refl, refl, (λ k d h. absurd (omega arith))); id = tt }; command = tt },
-    (record { time = omega arith; turn = tt; going = tt; rule = record { running = _; there = refl; chose = refl; needs = refl; session = (_, refl, refl, refl) }; command = tt },
-    (record { time = omega arith; turn = tt; going = tt; rule = ((_, refl, record { chose = refl; free = refl; equipped = record { session = refl; number = refl } }), (_, refl, refl)); command = tt },
-    (record { time = omega arith; turn = tt; going = tt; rule = (refl, (_, refl, (_, refl, refl, refl, refl, refl))); command = tt },
-    (record { time = refl; turn = record { on = refl; is_for = refl; bytes = refl }; going = tt; rule = record { next = refl; id = refl; is_for = tt }; command = tt },
-    (record { time = omega arith; turn = tt; going = tt; rule = (_, refl, (_, refl, refl, refl)); command = tt },
-    (record { time = refl; turn = refl; going = tt; rule = (_, refl, refl); command = (_, refl, refl) },
-    (record { time = omega arith; turn = tt; going = tt; rule = record { next = refl; id = refl; is_for = record { sends = record { command = _; given = refl; running = _; there = refl; unasked = refl; selected = _; chosen = refl; host = 0; ticket = 0; conn = 1; lent = refl; server = _; at = refl; extras = record { lsid = Some session_id; number = Some (pos 1); mode = Some mode.Primary; read = Some (record { ref_ptr = (0, 0); now = _ }) }; are = record { session = refl; number = refl; mode = refl; read = refl }; cluster = None; greatest = tt }; fits = fits_numbered (Some mode.Primary) (Some (record { ref_ptr = (0, 0); now = client_of_set.settings.read })) session_id (pos 1) refl; stream = refl; bytes = refl } }; command = (_, refl, refl) },
-    (record { time = omega arith; turn = tt; going = tt; rule = (_, refl, record { lent = refl; asked = 400; since = refl; ends = tt }); command = (_, refl, refl) },
-    (record { time = refl; turn = refl; going = tt; rule = offers (spot_behind client_of_set (start client_of_set) (take 22 failover)) 2 (event.Broken first (Some 0)) (offered.Accepted true) refl (λ h. absurd (cc), λ s. let k = s.kind in absurd (cc)); command = tt },
-    (record { time = refl; turn = refl; going = tt; rule = (_, refl, tt); command = tt },
-    (record { time = refl; turn = (refl, refl); going = tt; rule = (_, refl, (_, refl, refl)); command = tt },
-    (record { time = refl; turn = refl; going = tt; rule = (_, refl, refl); command = tt },
-    (record { time = omega arith; turn = tt; going = tt; rule = ((_, refl, refl), looks client_of_set (spot_behind client_of_set (start client_of_set) (take 26 failover)).point.state (spot_behind client_of_set (start client_of_set) (take 26 failover)).listed 500 0 7 8 [] _ (record { command = _; given = refl; running = _; there = refl; criteria = record { need = need.Write; avoid = Some (record { ref_ptr = (0, 0); now = first }); threshold_micros = 15000 }; asks = record { needs = refl; avoids = refl; within = refl }; addresses = []; numbers = tt; sublist = tt; concludes = omega arith })); command = tt },
-    (record { time = omega arith; turn = tt; going = tt; rule = (_, refl, (record { stays = refl; rests = refl; due = omega arith }, refl)); command = tt },
-    (record { time = refl; turn = record { on = refl; is_for = refl; bytes = refl }; going = tt; rule = record { next = refl; id = refl; is_for = tt }; command = tt },
-    (record { time = omega arith; turn = tt; going = tt; rule = (_, refl, (500200, record { stays = refl; since = refl }, refl)); command = tt },
-    (record { time = refl; turn = record { description = primary second; says = refl; of_host = refl }; going = tt; rule = offers (spot_behind client_of_set (start client_of_set) (take 30 failover)) 3 (event.Reply (primary second) 100) (offered.Accepted true) refl (λ h. absurd (cc), λ s. let k = s.kind in absurd (cc)); command = tt },
-    (record { time = omega arith; turn = tt; going = tt; rule = ((_, refl, refl), looks client_of_set (spot_behind client_of_set (start client_of_set) (take 31 failover)).point.state (spot_behind client_of_set (start client_of_set) (take 31 failover)).listed 500400 0 7 8 (1 ∷ []) _ (record { command = _; given = refl; running = _; there = refl; criteria = record { need = need.Write; avoid = Some (record { ref_ptr = (0, 0); now = first }); threshold_micros = 15000 }; asks = record { needs = refl; avoids = refl; within = refl }; addresses = second ∷ []; numbers = (refl, tt); sublist = inl (refl, tt); concludes = refl })); command = (_, refl, refl) },
-    (record { time = omega arith; turn = tt; going = tt; rule = ((_, refl, record { chose = refl; free = refl; equipped = record { session = refl; number = refl } }), (_, refl, refl)); command = tt },
-    (record { time = omega arith; turn = tt; going = tt; rule = (refl, (_, refl, (_, refl, refl, refl, refl, refl))); command = tt },
-    (record { time = refl; turn = record { on = refl; is_for = refl; bytes = refl }; going = tt; rule = record { next = refl; id = refl; is_for = tt }; command = tt },
-    (record { time = omega arith; turn = tt; going = tt; rule = (_, refl, (_, refl, refl, refl)); command = tt },
-    (record { time = refl; turn = refl; going = tt; rule = (_, refl, refl); command = (_, refl, refl) },
-    (record { time = omega arith; turn = tt; going = tt; rule = record { next = refl; id = refl; is_for = record { sends = record { command = _; given = refl; running = _; there = refl; unasked = refl; selected = _; chosen = refl; host = 1; ticket = 0; conn = 1; lent = refl; server = _; at = refl; extras = record { lsid = Some session_id; number = Some (pos 1); mode = Some mode.Primary; read = Some (record { ref_ptr = (0, 0); now = _ }) }; are = record { session = refl; number = refl; mode = refl; read = refl }; cluster = None; greatest = tt }; fits = fits_numbered (Some mode.Primary) (Some (record { ref_ptr = (0, 0); now = client_of_set.settings.read })) session_id (pos 1) refl; stream = refl; bytes = refl } }; command = (_, refl, refl) },
-    (record { time = omega arith; turn = tt; going = tt; rule = (_, refl, record { lent = refl; asked = 500500; since = refl; ends = tt }); command = (_, refl, refl) },
-    (record { time = refl; turn = (refl, refl); going = tt; rule = (_, refl, (_, refl, refl)); command = tt },
-    (record { time = omega arith; turn = tt; going = tt; rule = (_, refl, record { answers = refl; free = refl; once = refl }); command = tt },
-    (record { time = refl; turn = refl; going = tt; rule = record { running = _; there = refl; says = refl; session = (omega arith, (_, refl, (λ e. absurd (cc)), refl)) }; command = tt },
-    tt))))))))))))))))))))))))))))))))))))))))))
+good = (
+  record { time = refl; turn = refl; going = tt; rule = refl; command = tt },
+  (
+    record { time = omega arith; turn = tt; going = tt; rule = (_, refl, (record { stays = refl; rests = refl; due = omega arith }, refl)); command = tt },
+    (
+      record { time = refl; turn = record { on = refl; is_for = refl; bytes = refl }; going = tt; rule = record { next = refl; id = refl; is_for = tt }; command = tt },
+      (
+        record { time = omega arith; turn = tt; going = tt; rule = (_, refl, (0, record { stays = refl; since = refl }, refl)); command = tt },
+        (
+          record { time = refl; turn = record { description = primary first; says = refl; of_host = refl }; going = tt; rule = offers (spot_behind client_of_set (start client_of_set) (take 4 failover)) 0 (event.Reply (primary first) 100) (offered.Accepted true) refl (λ h. absurd (cc), λ s. let k = s.kind in absurd (cc)); command = tt },
+          (
+            record { time = refl; turn = refl; going = tt; rule = refl; command = tt },
+            (
+              record { time = refl; turn = refl; going = tt; rule = (_, refl, refl); command = tt },
+              (
+                record { time = omega arith; turn = tt; going = tt; rule = (_, refl, (record { stays = refl; rests = refl; due = omega arith }, refl)); command = tt },
+                (
+                  record { time = refl; turn = record { on = refl; is_for = refl; bytes = refl }; going = tt; rule = record { next = refl; id = refl; is_for = tt }; command = tt },
+                  (
+                    record { time = omega arith; turn = tt; going = tt; rule = (_, refl, (110, record { stays = refl; since = refl }, refl)); command = tt },
+                    (
+                      record { time = refl; turn = record { description = secondary; says = refl; of_host = refl }; going = tt; rule = offers (spot_behind client_of_set (start client_of_set) (take 10 failover)) 1 (event.Reply secondary 90) (offered.Accepted true) refl (λ h. absurd (cc), λ s. let k = ap kinds_of s.servers in absurd (cc)); command = tt },
+                      (
+                        record { time = refl; turn = refl; going = tt; rule = (_, refl, refl); command = tt },
+                        (
+                          record { time = omega arith; turn = tt; going = tt; rule = ((_, refl, refl), looks client_of_set (spot_behind client_of_set (start client_of_set) (take 12 failover)).point.state (spot_behind client_of_set (start client_of_set) (take 12 failover)).listed 300 0 7 8 (0 ∷ []) _ (record { command = _; given = refl; running = _; there = refl; criteria = record { need = need.Write; avoid = None; threshold_micros = 15000 }; asks = record { needs = refl; avoids = refl; within = refl }; addresses = first ∷ []; numbers = (refl, tt); sublist = inl (refl, tt); concludes = refl })); command = (_, refl, refl) },
+                          (
+                            record { time = omega arith; turn = tt; going = tt; rule = record { running = _; there = refl; chose = refl; session = (omega arith, refl, refl, (λ k d h. absurd (omega arith))); id = tt }; command = tt },
+                            (
+                              record { time = omega arith; turn = tt; going = tt; rule = record { running = _; there = refl; chose = refl; needs = refl; session = (_, refl, refl, refl) }; command = tt },
+                              (
+                                record { time = omega arith; turn = tt; going = tt; rule = ((_, refl, record { chose = refl; free = refl; equipped = record { session = refl; number = refl } }), (_, refl, refl)); command = tt },
+                                (
+                                  record { time = omega arith; turn = tt; going = tt; rule = (refl, (_, refl, (_, refl, refl, refl, refl, refl))); command = tt },
+                                  (
+                                    record { time = refl; turn = record { on = refl; is_for = refl; bytes = refl }; going = tt; rule = record { next = refl; id = refl; is_for = tt }; command = tt },
+                                    (
+                                      record { time = omega arith; turn = tt; going = tt; rule = (_, refl, (_, refl, refl, refl)); command = tt },
+                                      (
+                                        record { time = refl; turn = refl; going = tt; rule = (_, refl, refl); command = (_, refl, refl) },
+                                        (
+                                          record { time = omega arith; turn = tt; going = tt; rule = record { next = refl; id = refl; is_for = record { sends = record { command = _; given = refl; running = _; there = refl; unasked = refl; selected = _; chosen = refl; host = 0; ticket = 0; conn = 1; lent = refl; server = _; at = refl; extras = record { lsid = Some session_id; number = Some (pos 1); mode = Some mode.Primary; read = Some (record { ref_ptr = (0, 0); now = _ }) }; are = record { session = refl; number = refl; mode = refl; read = refl }; cluster = None; greatest = tt }; fits = fits_numbered (Some mode.Primary) (Some (record { ref_ptr = (0, 0); now = client_of_set.settings.read })) session_id (pos 1) refl; stream = refl; bytes = refl } }; command = (_, refl, refl) },
+                                          (
+                                            record { time = omega arith; turn = tt; going = tt; rule = (_, refl, record { lent = refl; asked = 400; since = refl; ends = tt }); command = (_, refl, refl) },
+                                            (
+                                              record { time = refl; turn = refl; going = tt; rule = offers (spot_behind client_of_set (start client_of_set) (take 22 failover)) 2 (event.Broken first (Some 0)) (offered.Accepted true) refl (λ h. absurd (cc), λ s. let k = s.kind in absurd (cc)); command = tt },
+                                              (
+                                                record { time = refl; turn = refl; going = tt; rule = (_, refl, tt); command = tt },
+                                                (
+                                                  record { time = refl; turn = (refl, refl); going = tt; rule = (_, refl, (_, refl, refl)); command = tt },
+                                                  (
+                                                    record { time = refl; turn = refl; going = tt; rule = (_, refl, refl); command = tt },
+                                                    (
+                                                      record { time = omega arith; turn = tt; going = tt; rule = ((_, refl, refl), looks client_of_set (spot_behind client_of_set (start client_of_set) (take 26 failover)).point.state (spot_behind client_of_set (start client_of_set) (take 26 failover)).listed 500 0 7 8 [] _ (record { command = _; given = refl; running = _; there = refl; criteria = record { need = need.Write; avoid = Some (record { ref_ptr = (0, 0); now = first }); threshold_micros = 15000 }; asks = record { needs = refl; avoids = refl; within = refl }; addresses = []; numbers = tt; sublist = tt; concludes = omega arith })); command = tt },
+                                                      (
+                                                        record { time = omega arith; turn = tt; going = tt; rule = (_, refl, (record { stays = refl; rests = refl; due = omega arith }, refl)); command = tt },
+                                                        (
+                                                          record { time = refl; turn = record { on = refl; is_for = refl; bytes = refl }; going = tt; rule = record { next = refl; id = refl; is_for = tt }; command = tt },
+                                                          (
+                                                            record { time = omega arith; turn = tt; going = tt; rule = (_, refl, (500200, record { stays = refl; since = refl }, refl)); command = tt },
+                                                            (
+                                                              record { time = refl; turn = record { description = primary second; says = refl; of_host = refl }; going = tt; rule = offers (spot_behind client_of_set (start client_of_set) (take 30 failover)) 3 (event.Reply (primary second) 100) (offered.Accepted true) refl (λ h. absurd (cc), λ s. let k = s.kind in absurd (cc)); command = tt },
+                                                              (
+                                                                record { time = omega arith; turn = tt; going = tt; rule = ((_, refl, refl), looks client_of_set (spot_behind client_of_set (start client_of_set) (take 31 failover)).point.state (spot_behind client_of_set (start client_of_set) (take 31 failover)).listed 500400 0 7 8 (1 ∷ []) _ (record { command = _; given = refl; running = _; there = refl; criteria = record { need = need.Write; avoid = Some (record { ref_ptr = (0, 0); now = first }); threshold_micros = 15000 }; asks = record { needs = refl; avoids = refl; within = refl }; addresses = second ∷ []; numbers = (refl, tt); sublist = inl (refl, tt); concludes = refl })); command = (_, refl, refl) },
+                                                                (
+                                                                  record { time = omega arith; turn = tt; going = tt; rule = ((_, refl, record { chose = refl; free = refl; equipped = record { session = refl; number = refl } }), (_, refl, refl)); command = tt },
+                                                                  (
+                                                                    record { time = omega arith; turn = tt; going = tt; rule = (refl, (_, refl, (_, refl, refl, refl, refl, refl))); command = tt },
+                                                                    (
+                                                                      record { time = refl; turn = record { on = refl; is_for = refl; bytes = refl }; going = tt; rule = record { next = refl; id = refl; is_for = tt }; command = tt },
+                                                                      (
+                                                                        record { time = omega arith; turn = tt; going = tt; rule = (_, refl, (_, refl, refl, refl)); command = tt },
+                                                                        (
+                                                                          record { time = refl; turn = refl; going = tt; rule = (_, refl, refl); command = (_, refl, refl) },
+                                                                          (
+                                                                            record { time = omega arith; turn = tt; going = tt; rule = record { next = refl; id = refl; is_for = record { sends = record { command = _; given = refl; running = _; there = refl; unasked = refl; selected = _; chosen = refl; host = 1; ticket = 0; conn = 1; lent = refl; server = _; at = refl; extras = record { lsid = Some session_id; number = Some (pos 1); mode = Some mode.Primary; read = Some (record { ref_ptr = (0, 0); now = _ }) }; are = record { session = refl; number = refl; mode = refl; read = refl }; cluster = None; greatest = tt }; fits = fits_numbered (Some mode.Primary) (Some (record { ref_ptr = (0, 0); now = client_of_set.settings.read })) session_id (pos 1) refl; stream = refl; bytes = refl } }; command = (_, refl, refl) },
+                                                                            (
+                                                                              record { time = omega arith; turn = tt; going = tt; rule = (_, refl, record { lent = refl; asked = 500500; since = refl; ends = tt }); command = (_, refl, refl) },
+                                                                              (
+                                                                                record { time = refl; turn = (refl, refl); going = tt; rule = (_, refl, (_, refl, refl)); command = tt },
+                                                                                (
+                                                                                  record { time = omega arith; turn = tt; going = tt; rule = (_, refl, record { answers = refl; free = refl; once = refl }); command = tt },
+                                                                                  (
+                                                                                    record { time = refl; turn = refl; going = tt; rule = record { running = _; there = refl; says = refl; session = (omega arith, (_, refl, (λ e. absurd (cc)), refl)) }; command = tt },
+                                                                                    tt,
+                                                                                  ),
+                                                                                ),
+                                                                              ),
+                                                                            ),
+                                                                          ),
+                                                                        ),
+                                                                      ),
+                                                                    ),
+                                                                  ),
+                                                                ),
+                                                              ),
+                                                            ),
+                                                          ),
+                                                        ),
+                                                      ),
+                                                    ),
+                                                  ),
+                                                ),
+                                              ),
+                                            ),
+                                          ),
+                                        ),
+                                      ),
+                                    ),
+                                  ),
+                                ),
+                              ),
+                            ),
+                          ),
+                        ),
+                      ),
+                    ),
+                  ),
+                ),
+              ),
+            ),
+          ),
+        ),
+      ),
+    ),
+  ),
+)

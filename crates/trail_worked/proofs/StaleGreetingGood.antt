@@ -10,30 +10,79 @@ use Rattle.trail_worked.specs.OneInsert.{alone, client_of_one, standalone}
 use Rattle.trail_worked.specs.StaleGreeting.{stale_greeting}
 
 pub good : AreGood client_of_one (start client_of_one) stale_greeting
-good =
-    (record { time = refl; turn = refl; going = tt; rule = refl; command = tt },
-    (record { time = omega arith; turn = tt; going = tt; rule = (_, refl, (record { stays = refl; rests = refl; due = omega arith }, refl)); command = tt },
-    (record { time = refl; turn = record { on = refl; is_for = refl; bytes = refl }; going = tt; rule = record { next = refl; id = refl; is_for = tt }; command = tt },
-    (record { time = omega arith; turn = tt; going = tt; rule = (_, refl, (0, record { stays = refl; since = refl }, refl)); command = tt },
-    (record { time = refl; turn = record { description = standalone; says = refl; of_host = refl }; going = tt; rule = offers (spot_behind client_of_one (start client_of_one) (take 4 stale_greeting)) 0 (event.Reply standalone 100) (offered.Accepted true) refl (λ h. absurd (cc), λ s. let k = s.kind in absurd (cc)); command = tt },
-    (record { time = refl; turn = refl; going = tt; rule = (_, refl, refl); command = tt },
-    (record { time = omega arith; turn = tt; going = tt; rule = ((_, refl, refl), looks client_of_one (spot_behind client_of_one (start client_of_one) (take 6 stale_greeting)).point.state (spot_behind client_of_one (start client_of_one) (take 6 stale_greeting)).listed 9999900 0 7 8 (0 ∷ []) _ (record { command = _; given = refl; running = _; there = refl; criteria = record { need = need.Write; avoid = None; threshold_micros = 15000 }; asks = record { needs = refl; avoids = refl; within = refl }; addresses = alone ∷ []; numbers = (refl, tt); sublist = inl (refl, tt); concludes = refl })); command = (_, refl, refl) },
-    (record { time = omega arith; turn = tt; going = tt; rule = ((_, refl, record { chose = refl; free = refl; equipped = record { session = refl; number = refl } }), (_, refl, refl)); command = tt },
-    (record { time = omega arith; turn = tt; going = tt; rule = (refl, (_, refl, (_, refl, refl, refl, refl, refl))); command = tt },
-    (record { time = refl; turn = record { on = refl; is_for = refl; bytes = refl }; going = tt; rule = record { next = refl; id = refl; is_for = tt }; command = tt },
-    (record { time = omega arith; turn = tt; going = tt; rule = (_, refl, (record { stays = refl; rests = refl; due = omega arith }, refl)); command = tt },
-    (record { time = refl; turn = record { on = refl; is_for = refl; bytes = refl }; going = tt; rule = record { next = refl; id = refl; is_for = tt }; command = tt },
-    (record { time = omega arith; turn = tt; going = tt; rule = (_, refl, (10000100, record { stays = refl; since = refl }, tt)); command = tt },
-    (record { time = refl; turn = refl; going = tt; rule = offers (spot_behind client_of_one (start client_of_one) (take 13 stale_greeting)) 1 (event.Broken alone None) (offered.Accepted true) refl (λ h. absurd (cc), λ s. let k = ap kinds_of s.servers in absurd (cc)); command = tt },
-    (record { time = refl; turn = refl; going = tt; rule = (_, refl, tt); command = tt },
-    (record { time = omega arith; turn = tt; going = tt; rule = (_, refl, (record { stays = refl; rests = refl; due = omega arith }, refl)); command = tt },
-    (record { time = refl; turn = record { on = refl; is_for = refl; bytes = refl }; going = tt; rule = record { next = refl; id = refl; is_for = tt }; command = tt },
-    (record { time = omega arith; turn = tt; going = tt; rule = (_, refl, (10000200, record { stays = refl; since = refl }, refl)); command = tt },
-    (record { time = refl; turn = record { description = standalone; says = refl; of_host = refl }; going = tt; rule = offers (spot_behind client_of_one (start client_of_one) (take 18 stale_greeting)) 2 (event.Reply standalone 100) (offered.Accepted true) refl (λ h. absurd (cc), λ s. let k = ap kinds_of s.servers in absurd (cc)); command = tt },
-    (record { time = refl; turn = refl; going = tt; rule = (_, refl, refl); command = tt },
-    (record { time = omega arith; turn = tt; going = tt; rule = (_, refl, (_, refl, refl, refl)); command = tt },
-    (record { time = refl; turn = refl; going = tt; rule = (_, refl, refl); command = tt },
-    (record { time = refl; turn = refl; going = tt; rule = (_, refl, refl); command = tt },
-    (record { time = refl; turn = (refl, refl); going = tt; rule = tt; command = (_, refl, refl) },
-    (record { time = omega arith; turn = tt; going = tt; rule = (_, refl, record { answers = refl; free = refl; once = refl }); command = tt },
-    tt)))))))))))))))))))))))))
+good = (
+  record { time = refl; turn = refl; going = tt; rule = refl; command = tt },
+  (
+    record { time = omega arith; turn = tt; going = tt; rule = (_, refl, (record { stays = refl; rests = refl; due = omega arith }, refl)); command = tt },
+    (
+      record { time = refl; turn = record { on = refl; is_for = refl; bytes = refl }; going = tt; rule = record { next = refl; id = refl; is_for = tt }; command = tt },
+      (
+        record { time = omega arith; turn = tt; going = tt; rule = (_, refl, (0, record { stays = refl; since = refl }, refl)); command = tt },
+        (
+          record { time = refl; turn = record { description = standalone; says = refl; of_host = refl }; going = tt; rule = offers (spot_behind client_of_one (start client_of_one) (take 4 stale_greeting)) 0 (event.Reply standalone 100) (offered.Accepted true) refl (λ h. absurd (cc), λ s. let k = s.kind in absurd (cc)); command = tt },
+          (
+            record { time = refl; turn = refl; going = tt; rule = (_, refl, refl); command = tt },
+            (
+              record { time = omega arith; turn = tt; going = tt; rule = ((_, refl, refl), looks client_of_one (spot_behind client_of_one (start client_of_one) (take 6 stale_greeting)).point.state (spot_behind client_of_one (start client_of_one) (take 6 stale_greeting)).listed 9999900 0 7 8 (0 ∷ []) _ (record { command = _; given = refl; running = _; there = refl; criteria = record { need = need.Write; avoid = None; threshold_micros = 15000 }; asks = record { needs = refl; avoids = refl; within = refl }; addresses = alone ∷ []; numbers = (refl, tt); sublist = inl (refl, tt); concludes = refl })); command = (_, refl, refl) },
+              (
+                record { time = omega arith; turn = tt; going = tt; rule = ((_, refl, record { chose = refl; free = refl; equipped = record { session = refl; number = refl } }), (_, refl, refl)); command = tt },
+                (
+                  record { time = omega arith; turn = tt; going = tt; rule = (refl, (_, refl, (_, refl, refl, refl, refl, refl))); command = tt },
+                  (
+                    record { time = refl; turn = record { on = refl; is_for = refl; bytes = refl }; going = tt; rule = record { next = refl; id = refl; is_for = tt }; command = tt },
+                    (
+                      record { time = omega arith; turn = tt; going = tt; rule = (_, refl, (record { stays = refl; rests = refl; due = omega arith }, refl)); command = tt },
+                      (
+                        record { time = refl; turn = record { on = refl; is_for = refl; bytes = refl }; going = tt; rule = record { next = refl; id = refl; is_for = tt }; command = tt },
+                        (
+                          record { time = omega arith; turn = tt; going = tt; rule = (_, refl, (10000100, record { stays = refl; since = refl }, tt)); command = tt },
+                          (
+                            record { time = refl; turn = refl; going = tt; rule = offers (spot_behind client_of_one (start client_of_one) (take 13 stale_greeting)) 1 (event.Broken alone None) (offered.Accepted true) refl (λ h. absurd (cc), λ s. let k = ap kinds_of s.servers in absurd (cc)); command = tt },
+                            (
+                              record { time = refl; turn = refl; going = tt; rule = (_, refl, tt); command = tt },
+                              (
+                                record { time = omega arith; turn = tt; going = tt; rule = (_, refl, (record { stays = refl; rests = refl; due = omega arith }, refl)); command = tt },
+                                (
+                                  record { time = refl; turn = record { on = refl; is_for = refl; bytes = refl }; going = tt; rule = record { next = refl; id = refl; is_for = tt }; command = tt },
+                                  (
+                                    record { time = omega arith; turn = tt; going = tt; rule = (_, refl, (10000200, record { stays = refl; since = refl }, refl)); command = tt },
+                                    (
+                                      record { time = refl; turn = record { description = standalone; says = refl; of_host = refl }; going = tt; rule = offers (spot_behind client_of_one (start client_of_one) (take 18 stale_greeting)) 2 (event.Reply standalone 100) (offered.Accepted true) refl (λ h. absurd (cc), λ s. let k = ap kinds_of s.servers in absurd (cc)); command = tt },
+                                      (
+                                        record { time = refl; turn = refl; going = tt; rule = (_, refl, refl); command = tt },
+                                        (
+                                          record { time = omega arith; turn = tt; going = tt; rule = (_, refl, (_, refl, refl, refl)); command = tt },
+                                          (
+                                            record { time = refl; turn = refl; going = tt; rule = (_, refl, refl); command = tt },
+                                            (
+                                              record { time = refl; turn = refl; going = tt; rule = (_, refl, refl); command = tt },
+                                              (
+                                                record { time = refl; turn = (refl, refl); going = tt; rule = tt; command = (_, refl, refl) },
+                                                (
+                                                  record { time = omega arith; turn = tt; going = tt; rule = (_, refl, record { answers = refl; free = refl; once = refl }); command = tt },
+                                                  tt,
+                                                ),
+                                              ),
+                                            ),
+                                          ),
+                                        ),
+                                      ),
+                                    ),
+                                  ),
+                                ),
+                              ),
+                            ),
+                          ),
+                        ),
+                      ),
+                    ),
+                  ),
+                ),
+              ),
+            ),
+          ),
+        ),
+      ),
+    ),
+  ),
+)

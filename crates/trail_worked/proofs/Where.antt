@@ -95,9 +95,11 @@ fits_first client w time op r command c selected given there chosen q =
     let is_command : s.command ≡ command = same (sym s.given ∙ given) in
     let running : s.running ≡ c = same (sym s.there ∙ there) in
     let is_selected : s.selected ≡ selected = same (sym s.chosen ∙ ap (λ (x : CommandState). x.selected) running ∙ chosen) in
-    let rest = over s.selected.server.max_message (message_size (command_document s.command client.settings.db s.extras s.cluster)) in
-    (rest, subst (λ (x : Selected). option_or (first_over x.server.max_doc (documents_of command.act)) rest ≡ None) is_selected
-    (subst (λ (x : Command). option_or (first_over s.selected.server.max_doc (documents_of x.act)) rest ≡ None) is_command q.fits))
+    let rest = over s.selected.server.max_message (message_size (command_document s.command client.settings.db s.extras s.cluster)) in (
+      rest,
+      subst (λ (x : Selected). option_or (first_over x.server.max_doc (documents_of command.act)) rest ≡ None) is_selected
+          (subst (λ (x : Command). option_or (first_over s.selected.server.max_doc (documents_of x.act)) rest ≡ None) is_command q.fits),
+    )
 
 -- the bytes of a request are those of its command, with its session and its number
 no_cluster : (t : Option ClusterTime) → IsGreatest None t → t ≡ None
@@ -114,7 +116,7 @@ bytes_sent client w op r command lsid number given session drawn q =
     let s = q.sends in
     let is_command : s.command ≡ command = same (sym s.given ∙ given) in
     let is_lsid : s.extras.lsid ≡ lsid =
-        s.are.session ∙ same (sym (ap (option_map (λ (c : CommandState). lsid_of w.sessions c.session)) s.there) ∙ session) in
+    s.are.session ∙ same (sym (ap (option_map (λ (c : CommandState). lsid_of w.sessions c.session)) s.there) ∙ session) in
     let is_number : s.extras.number ≡ number = s.are.number ∙ same (sym (ap (option_map (λ (c : CommandState). c.number)) s.there) ∙ drawn) in
     let none : s.cluster ≡ None = no_cluster s.cluster s.greatest in
     q.bytes ∙ (λ i. frame r.id (pos 0) 0 (command_document (is_command i) client.settings.db (record { lsid = is_lsid i; number = is_number i; mode = s.extras.mode; read = s.extras.read }) (none i)))

@@ -10,8 +10,6 @@ use Rattle.desk_trail.specs.declared.entry.OfferedHow.TheVariants as offered
 use Rattle.desk_trail.specs.Facts as fact
 use Rattle.trail_worked.specs.OneInsert.{alone, standalone}
 
-
-
 abbrev pub check_late : List (Timed Fact)
 check_late =
     at 0 (fact.Named 0 alone)  -- 0: the seed is named

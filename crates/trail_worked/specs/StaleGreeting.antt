@@ -15,8 +15,6 @@ use Rattle.desk_trail.specs.declared.entry.OfferedHow.TheVariants as offered
 use Rattle.desk_trail.specs.Facts as fact
 use Rattle.trail_worked.specs.OneInsert.{alone, standalone}
 
-
-
 abbrev pub stale_greeting : List (Timed Fact)
 stale_greeting =
     at 0 (fact.Named 0 alone)  -- 0: the seed is named

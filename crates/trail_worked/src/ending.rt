@@ -12,10 +12,15 @@ ghost use Rattle.trail_worked.specs.ClientEnds.{client_of_router, client_ends};
 pub fn a_client_ends()
     ensures legal { AreLegal client_of_router client_ends }
     ensures complete { ArePaid client_of_router client_ends }
-    ensures a_look_behind_the_farewell { AreLegal client_of_router (put_in client_ends 20 (at 500 (fact.Looked 0 7 8 (0 ∷ []) (looked.Chosen 0)))) → ⊥ }
-    ensures a_command_behind_the_farewell { AreLegal client_of_router (put_in client_ends 20 (at 500 (fact.Asked 4 (request 0 2 (pos 5) (numbered_bytes (pos 5) (pos 2)))))) → ⊥ }
-    ensures a_second_farewell_on_the_connection { AreLegal client_of_router (put_in client_ends 20 (at 500 (fact.Asked 4 (farewell 2 (pos 5) (session_id ∷ []))))) → ⊥ }
-    ensures a_farewell_on_a_connection_that_is_lent { AreLegal client_of_router (put_in client_ends 15 (at 350 (fact.Asked 3 (farewell 2 (pos 4) (session_id ∷ []))))) → ⊥ }
-    ensures its_connection_shut_as_stale { AreLegal client_of_router (instead client_ends 21 (at 500 (fact.ConnShut 0 1 reason.Stale))) → ⊥ }
+    ensures a_look_behind_the_farewell { AreLegal client_of_router
+        (put_in client_ends 20 (at 500 (fact.Looked 0 7 8 (0 ∷ []) (looked.Chosen 0)))) → ⊥ }
+    ensures a_command_behind_the_farewell { AreLegal client_of_router
+        (put_in client_ends 20 (at 500 (fact.Asked 4 (request 0 2 (pos 5) (numbered_bytes (pos 5) (pos 2)))))) → ⊥ }
+    ensures a_second_farewell_on_the_connection { AreLegal client_of_router
+        (put_in client_ends 20 (at 500 (fact.Asked 4 (farewell 2 (pos 5) (session_id ∷ []))))) → ⊥ }
+    ensures a_farewell_on_a_connection_that_is_lent { AreLegal client_of_router
+        (put_in client_ends 15 (at 350 (fact.Asked 3 (farewell 2 (pos 4) (session_id ∷ []))))) → ⊥ }
+    ensures its_connection_shut_as_stale { AreLegal client_of_router
+        (instead client_ends 21 (at 500 (fact.ConnShut 0 1 reason.Stale))) → ⊥ }
     ensures a_pool_closed_twice { AreLegal client_of_router (instead client_ends 21 (at 500 (fact.PoolShut 0))) → ⊥ }
 {}

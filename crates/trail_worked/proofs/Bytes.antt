@@ -1,12 +1,11 @@
 -- The bytes of the stories' inserts, and that they are not too large.
-use Rattle.std.proofs.Common.{◌≡◌, ℕ, ℤ, ◌+◌, ◌^◌, pos, true, List, [], ◌∷◌, ◌++◌, length, codes, Option, None, Some, refl, ap, ◌∙◌, arith}
+use Rattle.std.proofs.Common.{◌≡◌, ℕ, ℤ, ◌+◌, pos, true, List, [], ◌∷◌, ◌++◌, length, codes, Option, None, Some, refl, sym, ap, ◌∙◌, arith, eqb, get_or}
 use Rattle.std.proofs.lemmas.Fmt.{decimal_digit}
 use denote.Ref.{Bor}
 use Rattle.std.specs.Option.{option_or}
 use Rattle.bson_doc.specs.declared.ids.Lsid.{Lsid}
 use Rattle.bson_doc.specs.declared.kind.Kind.TheVariants as kinds
 use Rattle.bson_doc.specs.declared.kind.PlainKind.TheVariants as plain
-use Rattle.bson_doc.specs.declared.value.Document.{Document}
 use Rattle.bson_doc.specs.declared.value.Value.{Array, Doc}
 use Rattle.bson_doc.specs.declared.value.Value.TheVariants as value
 use Rattle.bson_wire.specs.Spelled.{Payload, binary, document, element, int64, numbered, payload, spelled, string}
@@ -15,7 +14,11 @@ use Rattle.cmd_build.specs.Commands.{command_document, majority, session}
 use Rattle.cmd_build.specs.Sizes.{Excess, excess, first_over, over, told}
 use Rattle.read_pref.specs.Preferences.{Preference}
 use Rattle.read_pref.specs.declared.mode.Mode.{Mode}
+use Rattle.msg_wire.specs.Framing.{frame, framing, header}
+use Rattle.trail_worked.specs.LeasedAgain.{session_id}
+use Rattle.trail_worked.specs.OneInsert.{insert_bytes, insert_message}
 use Rattle.trail_worked.specs.Words.{an_insert}
+use Rattle.trail_worked.proofs.Where.{clash}
 
 str : (t : List ℕ) → payload (value.Str t) ≡ (kinds.Plain plain.Str, string t)
 str t = payload-Str (value.Str t) t refl
@@ -88,3 +91,27 @@ module _ (mode : Option Mode) (read : Option (Bor Preference)) where
       ++ (element (codes "txnNumber") (kinds.Plain plain.Int64, int64 number) ++ []))) ≡ None →
       excess an_insert (codes "test") (record { lsid = Some id; number = Some number; mode = mode; read = read }) None (record { max_doc = 16777216; max_message = 48000000 }) ≡ None
   fits_numbered id number e = ap not_over (spelled-numbered id number) ∙ e
+
+-- the insert of the first story, written out
+pub insert-literal : insert_bytes (pos 3) ≡ insert_message
+unfolding frame framing header
+insert-literal = ap (λ bytes. framing (pos 3) (pos 0) 0 bytes) (spelled-plain None None)
+
+-- the lowest byte of the number of an insert with a session
+abbrev pub lowest_of_number : List ℕ → ℕ
+lowest_of_number bytes = get_or bytes 192 0
+
+numbered-literal : (id number : ℤ) (mode : Option Mode) (read : Option (Bor Preference)) →
+    frame id (pos 0) 0 (command_document an_insert (codes "test") (record { lsid = Some session_id; number = Some number; mode = mode; read = read }) None)
+    ≡ framing id (pos 0) 0 (with_fields (element (codes "lsid") (kinds.Doc, document (element (codes "id") (kinds.Plain plain.Binary, binary 4 session_id.0) ++ []))
+    ++ (element (codes "txnNumber") (kinds.Plain plain.Int64, int64 number) ++ [])))
+unfolding frame
+numbered-literal id number mode read = ap (λ bytes. framing id (pos 0) 0 bytes) (spelled-numbered mode read session_id number)
+
+-- the numbers 1 and 2 give other bytes
+pub numbers-apart : (mode mode' : Option Mode) (read read' : Option (Bor Preference)) →
+    frame (pos 7) (pos 0) 0 (command_document an_insert (codes "test") (record { lsid = Some session_id; number = Some (pos 2); mode = mode; read = read }) None)
+    ≡ frame (pos 7) (pos 0) 0 (command_document an_insert (codes "test") (record { lsid = Some session_id; number = Some (pos 1); mode = mode'; read = read' }) None) → ⊥
+unfolding framing header
+numbers-apart mode mode' read read' e =
+    clash (sym (numbered-literal (pos 7) (pos 2) mode read) ∙ e ∙ numbered-literal (pos 7) (pos 1) mode' read') (λ bytes. eqb (lowest_of_number bytes) 2) refl refl

@@ -1,5 +1,5 @@
 -- Farewells, over lists.
-use Rattle.std.proofs.Common.{◌≡◌, ℕ, zero, suc, ◌+◌, ◌<◌, ◌≤◌, true, List, [], ◌∷◌, ◌++◌, length, Some, refl, sym, ap, ◌∙◌, subst, slice_get, arith, is_some}
+use Rattle.std.proofs.Common.{◌≡◌, ℕ, zero, suc, ◌<◌, ◌≤◌, true, List, [], ◌∷◌, ◌++◌, length, Some, refl, sym, ap, ◌∙◌, subst, slice_get, arith, is_some}
 use Rattle.std.specs.List.{list_any}
 use Rattle.bson_doc.specs.declared.ids.Lsid.{Lsid}
 use Rattle.host_name.specs.Addresses.{Address, is_same_address}
@@ -11,10 +11,9 @@ use Rattle.desk_trail.specs.declared.request.Purpose.TheVariants as purpose
 use Rattle.desk_trail.specs.declared.request.Request.{Request}
 use Rattle.desk_trail.specs.Requests.{IsFarewell}
 use Rattle.desk_trail.specs.States.{ClientState, ServerState}
-use Rattle.topo_rules.specs.Maps.{ServerMap}
 use Rattle.std.specs.FinMap as map
 use Rattle.std.specs.Prelude.{Bool, false}
-use Rattle.trail_worked.proofs.MapRows.{descriptions_in, map_of, values-map_of}
+use Rattle.trail_worked.proofs.MapRows.{descriptions_in, values-map_of}
 use Rattle.trail_worked.proofs.TopologyRows.{Listed, shown}
 use Rattle.trail_worked.proofs.Where.{clash, same}
 
@@ -38,8 +37,8 @@ pub selectable_in : (l : Listed) (criteria : Criteria) (address : Address) →
 selectable_in l criteria address = ap (λ ds. list_any (λ d. is_same_address d.host address) (suitable l.kind criteria ds)) (values-map_of l.rows)
 
 -- of the only server, which has no available connection, there is none
-pub from_nowhere : (w : ClientState) (r : Request) (x : ServerState) → w.servers ≡ x ∷ [] → x.pool.state.available ≡ [] → IsFarewell w r → ⊥
-from_nowhere w r x only none f = by f.host (subst (λ ss. slice_get ss f.host ≡ Some f.server) only f.at)
+pub no_connection_for : (w : ClientState) (r : Request) (x : ServerState) → w.servers ≡ x ∷ [] → x.pool.state.available ≡ [] → IsFarewell w r → ⊥
+no_connection_for w r x only none f = by f.host (subst (λ ss. slice_get ss f.host ≡ Some f.server) only f.at)
   where
     by : (host : ℕ) → slice_get (x ∷ []) host ≡ Some f.server → ⊥
     by zero e =

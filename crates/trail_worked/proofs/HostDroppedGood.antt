@@ -1,6 +1,5 @@
 -- The trail of HostDropped stands, entry by entry.
 use Rattle.std.proofs.Common.{pos, true, [], ◌∷◌, None, Some, refl, inl, arith, ap, take}
-use Rattle.trail_worked.specs.Words.{at, host}
 use Rattle.trail_worked.proofs.Rules.{start, looks, offers}
 use Rattle.trail_worked.proofs.Spots.{AreGood, spot_behind}
 use Rattle.trail_worked.proofs.Where.{kinds_of}

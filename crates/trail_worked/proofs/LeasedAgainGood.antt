@@ -1,6 +1,5 @@
 -- The trail of LeasedAgain stands, entry by entry.
 use Rattle.std.proofs.Common.{pos, true, [], ◌∷◌, None, Some, refl, inl, arith, take}
-use Rattle.trail_worked.specs.Words.{at, host}
 use Rattle.trail_worked.proofs.Rules.{start, looks, offers}
 use Rattle.trail_worked.proofs.Spots.{AreGood, spot_behind}
 use Rattle.trail_worked.proofs.Bytes.{fits_numbered}

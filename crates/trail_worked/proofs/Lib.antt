@@ -16,4 +16,4 @@ mod NoServerGood
 mod DialFailedGood
 mod TooLargeGood
 mod CheckLateGood
-mod LastWordsGood
+mod ClientEndsGood

@@ -1,20 +1,17 @@
 -- When entries may stand that read the topology, over lists; trails from their beginning on; and what is not legal.
-use Rattle.std.proofs.Common.{◌≡◌, ℕ, ◌+◌, Bool, true, false, List, [], ◌∷◌, ◌++◌, map, find, take, length, Option, None, Some, refl, sym, ap, ◌∙◌, subst, slice_get}
+use Rattle.std.proofs.Common.{◌≡◌, ℕ, List, [], map, find, take, length, Option, None, Some, sym, ap, ◌∙◌, subst, slice_get}
 use Rattle.std.specs.Prelude.{◌↔◌, IsFalse}
-use Rattle.std.specs.Option.{option_and_then, option_copied, unwrap_or}
-use Rattle.std.specs.FinMap as map
+use Rattle.std.specs.Option.{option_and_then, unwrap_or}
 use Rattle.host_name.specs.Addresses.{Address}
 use Rattle.hello_reply.specs.declared.server_description.ServerDescription.{ServerDescription}
 use Rattle.hello_reply.specs.Descriptions.{unknown}
 use Rattle.entry_judge.specs.declared.timed.Timed.{Timed}
-use Rattle.entry_judge.specs.Judge.{Legal, state_after}
 use Rattle.entry_judge.specs.LegalLaws.{Legal-at}
 use Rattle.cmd_build.specs.declared.command.Command.{Command}
 use Rattle.topo_rules.specs.declared.event.TopoEvent.{TopoEvent}
 use Rattle.topo_rules.specs.Changes.{SameButMeans, meanless, plain}
 use Rattle.topo_rules.specs.Maps.{kept_mean}
-use Rattle.topo_rules.specs.Readings.{is_misfit, misfit_of}
-use Rattle.topo_rules.specs.Rules as rules
+use Rattle.topo_rules.specs.Readings.{is_misfit}
 use Rattle.topo_rules.specs.Rules.{start_kind}
 use Rattle.topo_book.specs.declared.verdict.Verdict.{Verdict}
 use Rattle.topo_book.specs.declared.verdict.Verdict.TheVariants as verdict
@@ -32,10 +29,10 @@ use Rattle.desk_trail.specs.Facts.{Fact}
 use Rattle.desk_trail.specs.Legal.{AreLegal, Point, StandsAt, beginning, point_after, point_behind}
 use Rattle.desk_trail.specs.Looks.{AreNumbersOf, Concludes, IsAskedBy, IsKeptOf, IsLook, load_of}
 use Rattle.desk_trail.specs.States.{ClientState, CommandState}
-use Rattle.desk_trail.specs.Topologies.{IsOffered, Says, verdict_on}
+use Rattle.desk_trail.specs.Topologies.{IsOffered, Says}
 use Rattle.trail_worked.proofs.MapRows.{Rows, map_of, in_order, descriptions_in, entries-map_of, values-map_of, get-map_of}
 use Rattle.trail_worked.proofs.TopologyRows.{Listed, shown, rows_for, mean_in, listed_after, after-shown}
-use Rattle.trail_worked.proofs.Spots.{Spot, on, up, verdict_in, verdict-in, AreGood, spot_after, spot_behind, good, behind}
+use Rattle.trail_worked.proofs.Spots.{Spot, on, up, verdict_in, verdict-in, AreGood, spot_behind, good, behind}
 
 -- ---- an event that is offered
 

@@ -1,5 +1,5 @@
 -- Points of a trail whose topology is that of a list: what an entry leads to is computed on the list.
-use Rattle.std.proofs.Common.{◌≡◌, ℕ, ℤ, ◌+◌, Bool, true, false, cond, not, ◌&&◌, ◌||◌, if◌then◌else◌, List, [], ◌∷◌, ◌++◌, map, filter, Option, None, Some, is_some, refl, sym, ap, ◌∙◌, subst, slice_get}
+use Rattle.std.proofs.Common.{◌≡◌, ℕ, ℤ, ◌+◌, Bool, true, false, not, ◌&&◌, ◌||◌, if◌then◌else◌, List, [], ◌∷◌, ◌++◌, map, filter, Option, None, Some, is_some, refl, sym, ap, ◌∙◌, subst, slice_get}
 use Rattle.std.specs.Prelude.{filter_map}
 use Rattle.std.specs.Option.{option_map_or, option_and_then}
 use Rattle.std.specs.FinMap as map
@@ -9,34 +9,28 @@ use Rattle.entry_judge.specs.declared.timed.Timed.{Timed}
 use Rattle.entry_judge.specs.Judge.{Legal, state_after}
 use Rattle.topo_rules.specs.declared.event.TopoEvent.{TopoEvent}
 use Rattle.topo_rules.specs.declared.event.TopoEvent.TheVariants.{Reply, Broken, Refused}
-use Rattle.topo_rules.specs.declared.topology.Topology.{Topology}
 use Rattle.topo_rules.specs.Changes.{hosts_beyond, serves, is_single, ready_after, cleared_after}
 use Rattle.topo_rules.specs.Kinds.{is_known, bears_data}
-use Rattle.topo_rules.specs.Maps.{ServerMap}
 use Rattle.topo_rules.specs.Readings.{least, minutes_of, session_minutes_of}
 use Rattle.topo_rules.specs.Rules.{event_host, after}
 use Rattle.topo_book.specs.Fresh.{by_kept, is_accepted_verdict}
-use Rattle.topo_book.specs.Means.{stands_known}
 use Rattle.topo_book.specs.declared.verdict.Verdict.{Verdict}
 use Rattle.write_retry.specs.declared.events.OpEvent.TheVariants as op_event
-use Rattle.desk_trail.specs.declared.entry.CheckHow.{CheckHow}
-use Rattle.desk_trail.specs.declared.entry.LookedHow.{LookedHow}
 use Rattle.desk_trail.specs.declared.entry.LookedHow.TheVariants as looked
-use Rattle.desk_trail.specs.declared.entry.OfferedHow.{OfferedHow}
 use Rattle.desk_trail.specs.declared.request.Purpose.{Purpose}
 use Rattle.desk_trail.specs.declared.request.Purpose.TheVariants as purpose
 use Rattle.desk_trail.specs.Attempts.{OfCommand, misfit_event, to_command, asked_by, commands_after}
-use Rattle.desk_trail.specs.Checks.{check_ends, offered_of, stream_taken, kept_at, is_known_at, is_known_by}
+use Rattle.desk_trail.specs.Checks.{check_ends, offered_of, stream_taken, kept_at, is_known_by}
 use Rattle.desk_trail.specs.Clients.{Client}
 use Rattle.desk_trail.specs.Facts.{Fact}
 use Rattle.desk_trail.specs.Facts as fact
-use Rattle.desk_trail.specs.Legal.{Point, StandsAt, ends_by, changed_by, client_after, point_after, owes}
-use Rattle.desk_trail.specs.Looks.{is_numbered, selected_by, selected_of, look_by}
+use Rattle.desk_trail.specs.Legal.{Point, StandsAt, client_after, point_after}
+use Rattle.desk_trail.specs.Looks.{is_numbered, selected_by, selected_of}
 use Rattle.desk_trail.specs.Owed.{Owed, left_owed}
 use Rattle.desk_trail.specs.Owed as owed
 use Rattle.desk_trail.specs.Pools.{OfHost, pool_step, pools_after}
 use Rattle.desk_trail.specs.Requests.{farewell_by}
-use Rattle.desk_trail.specs.States.{ClientState, ServerState, CommandState, Selected, description_of, number_of, with_command, with_server}
+use Rattle.desk_trail.specs.States.{ClientState, ServerState, Selected, description_of, number_of, with_command, with_server}
 use Rattle.desk_trail.specs.Topologies.{generation_for, verdict_on, with_ask, readied, cleared, owed_by_change, offered_after, offered_owes}
 use Rattle.trail_worked.proofs.MapRows.{Rows, map_of, found, hosts_in, descriptions_in, get-map_of, keys-map_of, values-map_of}
 use Rattle.trail_worked.proofs.TopologyRows.{Listed, shown, listed_after, after-shown}

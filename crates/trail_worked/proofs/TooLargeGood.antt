@@ -1,13 +1,12 @@
 -- The trail of TooLarge stands, entry by entry.
 use Rattle.std.proofs.Common.{true, [], ◌∷◌, None, Some, refl, inl, arith, take}
-use Rattle.trail_worked.specs.Words.{at, host}
 use Rattle.trail_worked.proofs.Rules.{start, looks, offers}
 use Rattle.trail_worked.proofs.Spots.{AreGood, spot_behind}
 use Rattle.topo_rules.specs.declared.event.TopoEvent.TheVariants as event
 use Rattle.desk_trail.specs.declared.entry.OfferedHow.TheVariants as offered
 use Rattle.server_pick.specs.declared.criteria.Need.TheVariants as need
 use Rattle.trail_worked.specs.OneInsert.{alone, client_of_one}
-use Rattle.trail_worked.specs.TooLarge.{narrow, too_large}
+use Rattle.trail_worked.specs.TooLarge.{small, too_large}
 
 pub good : AreGood client_of_one (start client_of_one) too_large
 good = (
@@ -19,7 +18,7 @@ good = (
       (
         record { time = omega arith; turn = tt; going = tt; rule = (_, refl, (0, record { stays = refl; since = refl }, refl)); command = tt },
         (
-          record { time = refl; turn = record { description = narrow; says = refl; of_host = refl }; going = tt; rule = offers (spot_behind client_of_one (start client_of_one) (take 4 too_large)) 0 (event.Reply narrow 100) (offered.Accepted true) refl (λ h. absurd (cc), λ s. let k = s.kind in absurd (cc)); command = tt },
+          record { time = refl; turn = record { description = small; says = refl; of_host = refl }; going = tt; rule = offers (spot_behind client_of_one (start client_of_one) (take 4 too_large)) 0 (event.Reply small 100) (offered.Accepted true) refl (λ h. absurd (cc), λ s. let k = s.kind in absurd (cc)); command = tt },
           (
             record { time = refl; turn = refl; going = tt; rule = (_, refl, refl); command = tt },
             (

@@ -1,5 +1,5 @@
 -- Topologies over lists of hosts: the rules of an event, computed on the list, make what they make of the map.
-use Rattle.std.proofs.Common.{◌≡◌, ℕ, ℤ, Bool, true, false, cond, not, ◌&&◌, ◌||◌, ◌==◌, if◌then◌else◌, List, [], ◌∷◌, ◌++◌, map, Option, None, Some, refl, sym, ap, ◌∙◌}
+use Rattle.std.proofs.Common.{◌≡◌, ℕ, ℤ, Bool, true, false, ◌&&◌, ◌||◌, ◌==◌, if◌then◌else◌, List, ◌∷◌, ◌++◌, map, Option, None, Some, refl, ap, ◌∙◌}
 use Rattle.std.specs.Option.{option_and_then, option_or, unwrap_or}
 use Rattle.std.specs.List.{list_any}
 use Rattle.std.specs.FinMap as map
@@ -18,11 +18,10 @@ use Rattle.topo_rules.specs.declared.maxima.Maxima.{Maxima}
 use Rattle.topo_rules.specs.declared.topology.Topology.{Topology}
 use Rattle.topo_rules.specs.Cells.{cell_of}
 use Rattle.topo_rules.specs.Kinds.{is_known, is_primary}
-use Rattle.topo_rules.specs.Maps.{ServerMap, tabulate, known_or_new, kept_mean, joined, beside_primary, servers_of_primary, has_primary}
+use Rattle.topo_rules.specs.Maps.{tabulate, known_or_new, kept_mean, joined, beside_primary, servers_of_primary, has_primary}
 use Rattle.topo_rules.specs.Primaries.{judged}
-use Rattle.topo_rules.specs.Rules as rules
-use Rattle.topo_rules.specs.Rules.{fresh, name_differs, me_differs, placed, settled, after, without, set_unknown, check_if_has_primary, with_verdict, taken_name, update_rs_from_primary, update_rs_without_primary, update_rs_with_primary_from_member}
-use Rattle.trail_worked.proofs.MapRows.{Rows, map_of, found, in_order, hosts_in, descriptions_in, rows_without, get-map_of, entries-map_of, keys-map_of, values-map_of, remove-map_of}
+use Rattle.topo_rules.specs.Rules.{fresh, name_differs, me_differs, placed, settled, after, without, check_if_has_primary, with_verdict, update_rs_from_primary, update_rs_without_primary, update_rs_with_primary_from_member}
+use Rattle.trail_worked.proofs.MapRows.{Rows, map_of, found, hosts_in, descriptions_in, rows_without, get-map_of, keys-map_of, values-map_of, remove-map_of}
 
 pub record Listed : Type 0 where
   pub kind : TopoKind

@@ -1,6 +1,6 @@
 -- What stands at a place is what stands there.
-use Rattle.std.proofs.Common.{◌≡◌, ℕ, zero, suc, ℤ, ◌<◌, ◌≤◌, ◌+◌, eqb, Bool, true, false, List, [], ◌∷◌, map, Option, None, Some, refl, sym, ap, ◌∙◌, subst, slice_get, arith, true≢false}
-use Rattle.std.specs.Option.{unwrap_or, option_or}
+use Rattle.std.proofs.Common.{◌≡◌, ℕ, zero, suc, ℤ, pos, ◌<◌, ◌≤◌, ◌+◌, eqb, Bool, true, false, List, [], ◌∷◌, map, Option, None, Some, refl, sym, ap, ◌∙◌, subst, slice_get, arith, true≢false}
+use Rattle.std.specs.Option.{unwrap_or, option_map, option_or}
 use Rattle.host_name.specs.Addresses.{Address}
 use Rattle.bson_doc.specs.declared.ids.Lsid.{Lsid}
 use Rattle.hello_reply.specs.declared.server_description.ServerDescription.{ServerDescription}
@@ -34,7 +34,9 @@ use Rattle.trail_worked.proofs.Spots.{on}
 use Rattle.trail_worked.proofs.Rules.{LookIn, picks_in}
 use Rattle.desk_trail.specs.declared.request.Request.{Request}
 use Rattle.desk_trail.specs.Clients.{Client, connect_limit, threshold}
-use Rattle.desk_trail.specs.Requests.{IsRequestOf}
+use Rattle.bson_doc.specs.declared.cluster_time.ClusterTime.{ClusterTime}
+use Rattle.msg_wire.specs.Framing.{frame}
+use Rattle.desk_trail.specs.Requests.{IsGreatest, IsRequestOf, lsid_of}
 use Rattle.desk_trail.specs.States.{ClientState, CommandState, ServerState, Selected, CheckOut, Nothing, Waits, Dials, Has, stream_of}
 
 pub same : {A : Type 0} {x y : A} → Some x ≡ Some y → x ≡ y
@@ -98,6 +100,26 @@ fits_first client w time op r command c selected given there chosen q =
       subst (λ (x : Selected). option_or (first_over x.server.max_doc (documents_of command.act)) rest ≡ None) is_selected
           (subst (λ (x : Command). option_or (first_over s.selected.server.max_doc (documents_of x.act)) rest ≡ None) is_command q.fits),
     )
+
+-- the bytes of a request are those of its command, with its session and its number
+no_cluster : (t : Option ClusterTime) → IsGreatest None t → t ≡ None
+no_cluster None g = refl
+no_cluster (Some t) g = absurd g
+
+pub bytes_sent : (client : Client) (w : ClientState) (op : ℕ) (r : Request) (command : Command) (lsid : Option Lsid) (number : Option ℤ) →
+    slice_get client.commands op ≡ Some command →
+    option_map (λ (c : CommandState). lsid_of w.sessions c.session) (slice_get w.commands op) ≡ Some lsid →
+    option_map (λ (c : CommandState). c.number) (slice_get w.commands op) ≡ Some number →
+    (q : IsRequestOf client w None op r) →
+    r.bytes ≡ frame r.id (pos 0) 0 (command_document command client.settings.db (record { lsid = lsid; number = number; mode = q.sends.extras.mode; read = q.sends.extras.read }) None)
+bytes_sent client w op r command lsid number given session drawn q =
+    let s = q.sends in
+    let is_command : s.command ≡ command = same (sym s.given ∙ given) in
+    let is_lsid : s.extras.lsid ≡ lsid =
+    s.are.session ∙ same (sym (ap (option_map (λ (c : CommandState). lsid_of w.sessions c.session)) s.there) ∙ session) in
+    let is_number : s.extras.number ≡ number = s.are.number ∙ same (sym (ap (option_map (λ (c : CommandState). c.number)) s.there) ∙ drawn) in
+    let none : s.cluster ≡ None = no_cluster s.cluster s.greatest in
+    q.bytes ∙ (λ i. frame r.id (pos 0) 0 (command_document (is_command i) client.settings.db (record { lsid = is_lsid i; number = is_number i; mode = s.extras.mode; read = s.extras.read }) (none i)))
 
 -- what an entry of the sessions says of its command
 module _ (w : ClientState) (moment op : ℕ) (c : CommandState) where

@@ -1,7 +1,6 @@
 -- Checks that end late: the first one of a known server, and is followed at once, the second one of an unknown server, and is
 -- not (Server Monitoring, connectTimeoutMS, Network or command error during server check).
 use Rattle.std.specs.Prelude.{pos, true, false, List, [], ◌∷◌, None}
-use Rattle.hello_reply.specs.Descriptions.{unknown}
 use Rattle.entry_judge.specs.declared.timed.Timed.{Timed}
 use Rattle.desk_trail.specs.Facts.{Fact}
 use Rattle.trail_worked.specs.Words.{at, check_hello, next_hello}

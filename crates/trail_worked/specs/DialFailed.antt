@@ -1,6 +1,5 @@
 -- A dial that fails (CMAP, Establishing a Connection; SDAM, Error handling: network error before the handshake completes).
 use Rattle.std.specs.Prelude.{pos, true, false, List, [], ◌∷◌, None, Some}
-use Rattle.hello_reply.specs.Descriptions.{unknown}
 use Rattle.entry_judge.specs.declared.timed.Timed.{Timed}
 use Rattle.desk_trail.specs.Facts.{Fact}
 use Rattle.trail_worked.specs.Words.{at, check_hello}

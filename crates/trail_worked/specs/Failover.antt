@@ -18,7 +18,6 @@ use Rattle.desk_trail.specs.declared.entry.CheckHow.TheVariants as check
 use Rattle.desk_trail.specs.declared.entry.LookedHow.TheVariants as looked
 use Rattle.desk_trail.specs.declared.entry.OfferedHow.TheVariants as offered
 use Rattle.desk_trail.specs.Facts as fact
-use Rattle.trail_worked.specs.OneInsert.{lists}
 use Rattle.trail_worked.specs.LeasedAgain.{session_id, numbered_bytes}
 
 -- The two hosts of the set.

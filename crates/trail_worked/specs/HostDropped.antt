@@ -4,7 +4,7 @@ use Rattle.std.specs.Prelude.{pos, true, false, List, [], ◌∷◌, Some}
 use Rattle.hello_reply.specs.declared.server_description.ServerDescription.{ServerDescription}
 use Rattle.entry_judge.specs.declared.timed.Timed.{Timed}
 use Rattle.desk_trail.specs.Facts.{Fact}
-use Rattle.trail_worked.specs.Words.{at, host, check_hello, greeting, command_request, wrote_one}
+use Rattle.trail_worked.specs.Words.{at, check_hello, greeting, command_request, wrote_one}
 use Rattle.topo_rules.specs.declared.event.TopoEvent.TheVariants as event
 use Rattle.pool_book.specs.declared.answers.CloseReason.TheVariants as reason
 use Rattle.write_retry.specs.declared.attempt_end.AttemptEnd.TheVariants as attempt
@@ -13,9 +13,8 @@ use Rattle.desk_trail.specs.declared.entry.CheckHow.TheVariants as check
 use Rattle.desk_trail.specs.declared.entry.LookedHow.TheVariants as looked
 use Rattle.desk_trail.specs.declared.entry.OfferedHow.TheVariants as offered
 use Rattle.desk_trail.specs.Facts as fact
-use Rattle.trail_worked.specs.OneInsert.{lists}
 use Rattle.trail_worked.specs.LeasedAgain.{session_id, numbered_bytes}
-use Rattle.trail_worked.specs.Failover.{first, second, member, primary}
+use Rattle.trail_worked.specs.Failover.{first, second, primary}
 
 -- The other member is the primary of a set that has only itself.
 abbrev pub primary_alone : ServerDescription

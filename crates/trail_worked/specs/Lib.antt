@@ -10,4 +10,4 @@ pub mod NoServer
 pub mod DialFailed
 pub mod TooLarge
 pub mod CheckLate
-pub mod LastWords
+pub mod ClientEnds

@@ -11,8 +11,8 @@ use Rattle.desk_trail.specs.Facts as fact
 use Rattle.trail_worked.specs.OneInsert.{alone}
 
 -- A client of the only seed with one insert, whose selections end after 600 milliseconds.
-abbrev pub client_in_haste : Client
-client_in_haste = client_with (record (plain_configuration (alone ∷ []) None (codes "test")) { select_ms = 600 }) (an_insert ∷ [])
+abbrev pub client_with_deadline : Client
+client_with_deadline = client_with (record (plain_configuration (alone ∷ []) None (codes "test")) { select_ms = 600 }) (an_insert ∷ [])
 
 abbrev pub no_server : List (Timed Fact)
 no_server =

@@ -55,6 +55,22 @@ one_insert =
     ∷ at 400 (fact.Finished 0 (outcome.Ok (pos 1) (pos 0)))  -- 15: and the insert is answered
     ∷ []
 
+-- The same bytes of the third command_request, written out (MongoDB wire protocol, OP_MSG; bsonspec 1.1).
+abbrev pub insert_message : List ℕ
+insert_message =
+    146 ∷ 0 ∷ 0 ∷ 0 ∷ 3 ∷ 0 ∷ 0 ∷ 0 ∷ 0 ∷ 0 ∷ 0 ∷ 0 ∷ 221 ∷ 7 ∷ 0 ∷ 0  -- messageLength, requestID, responseTo and opCode
+    ∷ 0 ∷ 0 ∷ 0 ∷ 0 ∷ 0  -- flagBits and the kind of the section
+    ∷ 125 ∷ 0 ∷ 0 ∷ 0  -- the length of the document
+    ∷ 2 ∷ 105 ∷ 110 ∷ 115 ∷ 101 ∷ 114 ∷ 116 ∷ 0 ∷ 7 ∷ 0 ∷ 0 ∷ 0 ∷ 116 ∷ 104 ∷ 105 ∷ 110 ∷ 103 ∷ 115 ∷ 0  -- insert, the collection
+    ∷ 4 ∷ 100 ∷ 111 ∷ 99 ∷ 117 ∷ 109 ∷ 101 ∷ 110 ∷ 116 ∷ 115 ∷ 0 ∷ 13 ∷ 0 ∷ 0 ∷ 0 ∷ 3 ∷ 48 ∷ 0 ∷ 5 ∷ 0 ∷ 0 ∷ 0 ∷ 0 ∷ 0  -- documents, an array of one empty document
+    ∷ 8 ∷ 111 ∷ 114 ∷ 100 ∷ 101 ∷ 114 ∷ 101 ∷ 100 ∷ 0 ∷ 1  -- ordered, true
+    ∷ 3 ∷ 119 ∷ 114 ∷ 105 ∷ 116 ∷ 101 ∷ 67 ∷ 111 ∷ 110 ∷ 99 ∷ 101 ∷ 114 ∷ 110 ∷ 0 ∷ 21 ∷ 0 ∷ 0 ∷ 0 ∷ 2 ∷ 119 ∷ 0 ∷ 9 ∷ 0 ∷ 0  -- writeConcern, w majority
+    ∷ 0 ∷ 109 ∷ 97 ∷ 106 ∷ 111 ∷ 114 ∷ 105 ∷ 116 ∷ 121 ∷ 0 ∷ 0
+    ∷ 2 ∷ 97 ∷ 112 ∷ 105 ∷ 86 ∷ 101 ∷ 114 ∷ 115 ∷ 105 ∷ 111 ∷ 110 ∷ 0 ∷ 2 ∷ 0 ∷ 0 ∷ 0 ∷ 49 ∷ 0  -- apiVersion, 1
+    ∷ 2 ∷ 36 ∷ 100 ∷ 98 ∷ 0 ∷ 5 ∷ 0 ∷ 0 ∷ 0 ∷ 116 ∷ 101 ∷ 115 ∷ 116 ∷ 0  -- $db, the database
+    ∷ 0  -- the end of the document
+    ∷ []
+
 -- The same with the five lists: names, events, ids of sessions and requests, and the steps, whose entries name their places.
 abbrev pub lists : Lists
 lists = record {

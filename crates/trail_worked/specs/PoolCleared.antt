@@ -1,7 +1,6 @@
 -- A pool that is cleared while a command waits, a connection is made, and another one is lent (CMAP, Clearing a Connection Pool;
 -- SDAM, Error handling).
 use Rattle.std.specs.Prelude.{pos, true, false, List, [], ◌∷◌, None, Some, codes}
-use Rattle.hello_reply.specs.Descriptions.{unknown}
 use Rattle.conn_uri.specs.Configurations.{plain_configuration}
 use Rattle.entry_judge.specs.declared.timed.Timed.{Timed}
 use Rattle.desk_trail.specs.Clients.{Client}

@@ -1,7 +1,6 @@
 -- A connection whose pool was cleared, and made ready again, before its greeting was answered (CMAP, Establishing a Connection;
 -- Server Monitoring, Network or command error during server check).
 use Rattle.std.specs.Prelude.{pos, true, List, [], ◌∷◌, None, Some}
-use Rattle.hello_reply.specs.Descriptions.{unknown}
 use Rattle.entry_judge.specs.declared.timed.Timed.{Timed}
 use Rattle.desk_trail.specs.Facts.{Fact}
 use Rattle.trail_worked.specs.Words.{at, check_hello, next_hello, greeting}

@@ -15,8 +15,8 @@ use Rattle.desk_trail.specs.Facts as fact
 use Rattle.trail_worked.specs.OneInsert.{alone, standalone}
 
 -- The server says that it takes documents of at most four bytes, fewer than an empty one has.
-abbrev pub narrow : ServerDescription
-narrow = record standalone { max_doc = 4 }
+abbrev pub small : ServerDescription
+small = record standalone { max_doc = 4 }
 
 abbrev pub too_large : List (Timed Fact)
 too_large =
@@ -24,7 +24,7 @@ too_large =
     ∷ at 0 (fact.CheckBegan 0 1)  -- 1: its first check begins at once, on stream 1
     ∷ at 0 (fact.Asked 0 (check_hello 0 1 (pos 1)))  -- 2: with a hello
     ∷ at 100 (fact.CheckEnded 0 (check.Reply 100))  -- 3: the reply comes after 100 microseconds
-    ∷ at 100 (fact.Offered 0 (event.Reply narrow 100) (offered.Accepted true))  -- 4: the topology takes it in, and is Single
+    ∷ at 100 (fact.Offered 0 (event.Reply small 100) (offered.Accepted true))  -- 4: the topology takes it in, and is Single
     ∷ at 100 (fact.PoolReady 0)  -- 5: so the pool is made ready
     ∷ at 200 (fact.Looked 0 7 8 (0 ∷ []) (looked.Chosen 0))  -- 6: the insert chooses the server
     ∷ at 200 (fact.Entered 0 0 0)  -- 7: and asks the pool for a connection

@@ -1,5 +1,5 @@
 -- What the stories are told in: hosts, requests and bytes of commands.
-use Rattle.std.specs.Prelude.{◌≡◌, ℕ, ℤ, pos, true, false, List, ◌∷◌, [], Option, None, Some, codes, slice_set, take, drop, ◌++◌, ◌+◌}
+use Rattle.std.specs.Prelude.{◌≡◌, ℕ, ℤ, pos, true, false, List, ◌∷◌, [], None, codes, slice_set, take, drop, ◌++◌, ◌+◌}
 use Rattle.bson_doc.specs.declared.ids.Lsid.{Lsid}
 use Rattle.host_name.specs.Addresses.{Address}
 use Rattle.msg_wire.specs.Framing.{frame}

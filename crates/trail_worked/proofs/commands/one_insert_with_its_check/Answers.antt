@@ -2,6 +2,7 @@ use Rattle.std.proofs.Common.{pos, true, false, refl}
 use Rattle.trail_worked.specs.Words.{at, instead, put_in, left_out, command_request}
 use Rattle.trail_worked.proofs.Rules.{legal, paid, refused}
 use Rattle.trail_worked.proofs.Where.{known, stream_sent}
+use Rattle.trail_worked.proofs.Bytes.{insert-literal}
 use Rattle.topo_rules.specs.declared.event.TopoEvent.TheVariants as event
 use Rattle.write_retry.specs.declared.outcome.Outcome.TheVariants as outcome
 use Rattle.desk_trail.specs.declared.entry.OfferedHow.TheVariants as offered
@@ -18,6 +19,9 @@ returns-clause-complete c = paid client_of_one one_insert refl
 
 pub returns-clause-step_by_step : goal.returns-clause-step_by_step
 returns-clause-step_by_step c = record { placed = refl; legal = legal client_of_one one_insert good }
+
+pub returns-clause-its_bytes : goal.returns-clause-its_bytes
+returns-clause-its_bytes c = insert-literal
 
 pub returns-clause-none_left : goal.returns-clause-none_left
 returns-clause-none_left c = record { paid = paid client_of_one one_insert refl }

@@ -27,8 +27,8 @@ returns-clause-an_error_that_is_not_offered c = refused client_of_one (left_out 
 pub returns-clause-offered_as_stale : goal.returns-clause-offered_as_stale
 returns-clause-offered_as_stale c = refused client_of_one (instead dial_failed 12 (at 200 (fact.Offered 1 (event.Broken alone (Some 0)) offered.StaleGeneration))) 12 _ refl (λ s. offer_says (spot_behind client_of_one (start client_of_one) (take 12 dial_failed)).point.state (spot_behind client_of_one (start client_of_one) (take 12 dial_failed)).listed 1 (event.Broken alone (Some 0)) offered.StaleGeneration s.rule)
 
-pub returns-clause-dialled_again_by_the_same_command : goal.returns-clause-dialled_again_by_the_same_command
-returns-clause-dialled_again_by_the_same_command c = refused client_of_one (instead dial_failed 14 (at 200 (fact.Dialled 0 0 2 (Some 3)))) 14 _ refl (λ s. s.rule.1)
+pub returns-clause-dialled_again_without_a_ticket : goal.returns-clause-dialled_again_without_a_ticket
+returns-clause-dialled_again_without_a_ticket c = refused client_of_one (instead dial_failed 14 (at 200 (fact.Dialled 0 0 2 (Some 3)))) 14 _ refl (λ s. s.rule.1)
 
 pub returns-clause-answered_as_cleared : goal.returns-clause-answered_as_cleared
 returns-clause-answered_as_cleared c = refused client_of_one (instead dial_failed 14 (at 200 (fact.Finished 0 (outcome.PoolCleared 1)))) 14 _ refl (λ s. clash (known s.rule refl).answers answers_network refl refl)

@@ -1,4 +1,4 @@
-use Rattle.std.proofs.Common.{false, Some, refl, sym}
+use Rattle.std.proofs.Common.{false, Some, refl, sym, eqb}
 use Rattle.trail_worked.specs.Words.{at, instead, left_out}
 use Rattle.trail_worked.proofs.Rules.{legal, paid, refused}
 use Rattle.trail_worked.proofs.Where.{known, known_both, known_first, clash, clash_bool, shuts_as_errored}
@@ -21,8 +21,11 @@ returns-clause-a_connection_of_the_old_generation_lent c = refused client_of_cle
 pub returns-clause-dialled_while_the_pool_is_paused : goal.returns-clause-dialled_while_the_pool_is_paused
 returns-clause-dialled_while_the_pool_is_paused c = refused client_of_cleared (instead pool_cleared 24 (at 10000300 (fact.Dialled 2 0 3 (Some 4)))) 24 _ refl (λ s. clash_bool (sym (known_first (known s.rule.1 refl) refl)))
 
-pub returns-clause-waits_for_its_time_in_a_cleared_pool : goal.returns-clause-waits_for_its_time_in_a_cleared_pool
-returns-clause-waits_for_its_time_in_a_cleared_pool c = refused client_of_cleared (instead pool_cleared 24 (at 40000500 (fact.NotLent 2 0 unsent.PoolLate))) 24 _ refl (λ s. clash_bool (known (known s.rule refl) refl).1)
+pub returns-clause-refused_as_late_in_a_cleared_pool : goal.returns-clause-refused_as_late_in_a_cleared_pool
+returns-clause-refused_as_late_in_a_cleared_pool c = refused client_of_cleared (instead pool_cleared 24 (at 40000500 (fact.NotLent 2 0 unsent.PoolLate))) 24 _ refl (λ s. clash_bool (known (known s.rule refl) refl).1)
+
+pub returns-clause-refused_with_the_generation_ahead_of_the_clear : goal.returns-clause-refused_with_the_generation_ahead_of_the_clear
+returns-clause-refused_with_the_generation_ahead_of_the_clear c = refused client_of_cleared (instead pool_cleared 24 (at 10000300 (fact.NotLent 2 0 (unsent.PoolCleared 0)))) 24 _ refl (λ s. clash (known (known s.rule refl) refl).2 (eqb 0) refl refl)
 
 pub returns-clause-an_attempt_that_does_not_end : goal.returns-clause-an_attempt_that_does_not_end
 returns-clause-an_attempt_that_does_not_end c = refused client_of_cleared (left_out pool_cleared 25) 25 _ refl (λ s. s.turn)

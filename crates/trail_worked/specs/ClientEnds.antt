@@ -20,8 +20,8 @@ use Rattle.trail_worked.specs.LeasedAgain.{router, mongos, session_id, numbered_
 abbrev pub client_of_router : Client
 client_of_router = client_with (plain_configuration (router ∷ []) None (codes "test")) (an_insert ∷ [])
 
-abbrev pub last_words : List (Timed Fact)
-last_words =
+abbrev pub client_ends : List (Timed Fact)
+client_ends =
     at 0 (fact.Named 0 router)  -- 0: the seed is named
     ∷ at 0 (fact.CheckBegan 0 1)  -- 1: its first check begins at once, on stream 1
     ∷ at 0 (fact.Asked 0 (check_hello 0 1 (pos 1)))  -- 2: with a hello

@@ -1,6 +1,5 @@
--- The trail of LastWords stands, entry by entry.
+-- The trail of ClientEnds stands, entry by entry.
 use Rattle.std.proofs.Common.{pos, true, [], ◌∷◌, None, Some, refl, inl, arith, take}
-use Rattle.trail_worked.specs.Words.{at, host}
 use Rattle.trail_worked.proofs.Rules.{start, looks, offers}
 use Rattle.trail_worked.proofs.Spots.{AreGood, spot_behind, minutes-in}
 use Rattle.trail_worked.proofs.Farewells.{parted_one, selectable_in}
@@ -9,11 +8,10 @@ use Rattle.topo_rules.specs.declared.event.TopoEvent.TheVariants as event
 use Rattle.desk_trail.specs.declared.entry.OfferedHow.TheVariants as offered
 use Rattle.read_pref.specs.declared.mode.Mode.TheVariants as mode
 use Rattle.server_pick.specs.declared.criteria.Need.TheVariants as need
-use Rattle.trail_worked.specs.OneInsert.{lists}
 use Rattle.trail_worked.specs.LeasedAgain.{router, mongos, session_id}
-use Rattle.trail_worked.specs.LastWords.{client_of_router, last_words}
+use Rattle.trail_worked.specs.ClientEnds.{client_of_router, client_ends}
 
-pub good : AreGood client_of_router (start client_of_router) last_words
+pub good : AreGood client_of_router (start client_of_router) client_ends
 good = (
   record { time = refl; turn = refl; going = tt; rule = refl; command = tt },
   (
@@ -23,11 +21,11 @@ good = (
       (
         record { time = omega arith; turn = tt; going = tt; rule = (_, refl, (0, record { stays = refl; since = refl }, refl)); command = tt },
         (
-          record { time = refl; turn = record { description = mongos; says = refl; of_host = refl }; going = tt; rule = offers (spot_behind client_of_router (start client_of_router) (take 4 last_words)) 0 (event.Reply mongos 100) (offered.Accepted true) refl (λ h. absurd (cc), λ s. let k = s.kind in absurd (cc)); command = tt },
+          record { time = refl; turn = record { description = mongos; says = refl; of_host = refl }; going = tt; rule = offers (spot_behind client_of_router (start client_of_router) (take 4 client_ends)) 0 (event.Reply mongos 100) (offered.Accepted true) refl (λ h. absurd (cc), λ s. let k = s.kind in absurd (cc)); command = tt },
           (
             record { time = refl; turn = refl; going = tt; rule = (_, refl, refl); command = tt },
             (
-              record { time = omega arith; turn = tt; going = tt; rule = ((_, refl, refl), looks client_of_router (spot_behind client_of_router (start client_of_router) (take 6 last_words)).point.state (spot_behind client_of_router (start client_of_router) (take 6 last_words)).listed 200 0 7 8 (0 ∷ []) _ (record { command = _; given = refl; running = _; there = refl; criteria = record { need = need.Write; avoid = None; threshold_micros = 15000 }; asks = record { needs = refl; avoids = refl; within = refl }; addresses = router ∷ []; numbers = (refl, tt); sublist = inl (refl, tt); concludes = refl })); command = (_, refl, refl) },
+              record { time = omega arith; turn = tt; going = tt; rule = ((_, refl, refl), looks client_of_router (spot_behind client_of_router (start client_of_router) (take 6 client_ends)).point.state (spot_behind client_of_router (start client_of_router) (take 6 client_ends)).listed 200 0 7 8 (0 ∷ []) _ (record { command = _; given = refl; running = _; there = refl; criteria = record { need = need.Write; avoid = None; threshold_micros = 15000 }; asks = record { needs = refl; avoids = refl; within = refl }; addresses = router ∷ []; numbers = (refl, tt); sublist = inl (refl, tt); concludes = refl })); command = (_, refl, refl) },
               (
                 record { time = omega arith; turn = tt; going = tt; rule = record { running = _; there = refl; chose = refl; session = (omega arith, refl, refl, (λ k d h. absurd (omega arith))); id = tt }; command = tt },
                 (
@@ -53,7 +51,7 @@ good = (
                                     (
                                       record { time = refl; turn = refl; going = tt; rule = record { running = _; there = refl; says = refl; session = (omega arith, (_, refl, (λ e. absurd (cc)), refl)) }; command = tt },
                                       (
-                                        record { time = omega arith; turn = tt; going = tt; rule = record { next = refl; id = refl; is_for = record { minutes = pos 30; has_sessions = minutes-in (spot_behind client_of_router (start client_of_router) (take 19 last_words)).listed; lists = (session_id ∷ []) ∷ []; parted = parted_one (session_id ∷ []) refl (omega arith) (omega arith); ids = session_id ∷ []; next = refl; criteria = record { need = need.Read (record { ref_ptr = (0, 0); now = record { mode = mode.PrimaryPreferred; tag_sets = [] } }); avoid = None; threshold_micros = 15000 }; prefers = (refl, refl); avoids = refl; host = 0; server = _; at = refl; stays = refl; selectable = selectable_in (spot_behind client_of_router (start client_of_router) (take 19 last_words)).listed (record { need = need.Read (record { ref_ptr = (0, 0); now = record { mode = mode.PrimaryPreferred; tag_sets = [] } }); avoid = None; threshold_micros = 15000 }) router; free = _; place = 0; available = refl; stream = refl; unused = refl; bytes = refl } }; command = tt },
+                                        record { time = omega arith; turn = tt; going = tt; rule = record { next = refl; id = refl; is_for = record { minutes = pos 30; has_sessions = minutes-in (spot_behind client_of_router (start client_of_router) (take 19 client_ends)).listed; lists = (session_id ∷ []) ∷ []; parted = parted_one (session_id ∷ []) refl (omega arith) (omega arith); ids = session_id ∷ []; next = refl; criteria = record { need = need.Read (record { ref_ptr = (0, 0); now = record { mode = mode.PrimaryPreferred; tag_sets = [] } }); avoid = None; threshold_micros = 15000 }; prefers = (refl, refl); avoids = refl; host = 0; server = _; at = refl; stays = refl; selectable = selectable_in (spot_behind client_of_router (start client_of_router) (take 19 client_ends)).listed (record { need = need.Read (record { ref_ptr = (0, 0); now = record { mode = mode.PrimaryPreferred; tag_sets = [] } }); avoid = None; threshold_micros = 15000 }) router; free = _; place = 0; available = refl; stream = refl; unused = refl; bytes = refl } }; command = tt },
                                         (
                                           record { time = omega arith; turn = tt; going = tt; rule = (_, refl, refl); command = tt },
                                           (

@@ -143,18 +143,19 @@ due_from n moment (s ∷ ss) = if is_due moment s then owed.Begun n ∷ due_from
 
 -- ---- What a selection waits for
 
--- A server was checked for a selection whose first look and deadline are these, at which so many hosts had been named by its
--- last look that found none: it was named only at or past the deadline; a check of it ended no earlier than half a second ahead
--- of the first look; or a check of it runs that had no answer at or past the deadline, and that began before the deadline, or is
--- of a server that was named behind that look (Server Selection, serverSelectionTimeoutMS; own: what a selection waits for
--- before it fails).
-pub data IsCheckedFor (first deadline known host : ℕ) (s : ServerState) : Type 0 where
-  named_late : deadline ≤ s.named → IsCheckedFor first deadline known host s
-  ended : (moment : ℕ) → s.checks.ended ≡ Some moment → first ≤ moment + HALF_SECOND → IsCheckedFor first deadline known host s
+-- A server was checked by a moment for a selection whose first look and deadline are these, at which so many hosts had been
+-- named by its last look that found none: it was named only at or past the deadline; a check of it ended no earlier than half a
+-- second ahead of the first look, and none is due; or a check of it runs that had no answer at or past the deadline, and that
+-- began before the deadline, or is of a server that was named behind that look (Server Selection, serverSelectionTimeoutMS; own:
+-- what a selection waits for before it fails).
+pub data IsCheckedFor (moment first deadline known host : ℕ) (s : ServerState) : Type 0 where
+  named_late : deadline ≤ s.named → IsCheckedFor moment first deadline known host s
+  ended : (last : ℕ) → s.checks.ended ≡ Some last → first ≤ last + HALF_SECOND → is_due moment s ≡ false →
+      IsCheckedFor moment first deadline known host s
   runs : (began dry : ℕ) → s.checks.began ≡ Some began → s.dry ≡ Some dry → deadline ≤ dry → (began < deadline) ⊎ (known ≤ host) →
-      IsCheckedFor first deadline known host s
+      IsCheckedFor moment first deadline known host s
 
 -- Every server of the topology was.
-abbrev pub AreChecked : ClientState → (first deadline known : ℕ) → Type 0
-AreChecked w first deadline known =
-    (host : ℕ) (s : ServerState) → slice_get w.servers host ≡ Some s → s.has_left ≡ false → IsCheckedFor first deadline known host s
+abbrev pub AreChecked : ClientState → (moment first deadline known : ℕ) → Type 0
+AreChecked w moment first deadline known =
+    (host : ℕ) (s : ServerState) → slice_get w.servers host ≡ Some s → s.has_left ≡ false → IsCheckedFor moment first deadline known host s

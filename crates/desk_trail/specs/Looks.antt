@@ -93,7 +93,7 @@ Concludes client w c moment (picked.Chosen address) (looked.Chosen host) = numbe
 Concludes client w c moment (picked.Incompatible address min max) (looked.Incompatible host) = number_of w address ≡ Some host
 Concludes client w c moment picked.NoneFits looked.NoneFits = moment < deadline client c moment
 Concludes client w c moment picked.NoneFits looked.Failed =
-    (deadline client c moment ≤ moment) × AreChecked w (first_look c moment) (deadline client c moment) (hosts_known c)
+    (deadline client c moment ≤ moment) × AreChecked w moment (first_look c moment) (deadline client c moment) (hosts_known c)
 Concludes client w c moment p l = ⊥
 
 -- A command looks: some of the candidates were kept, in their order, and of these the choice of two with the two words came to

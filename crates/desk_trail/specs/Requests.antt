@@ -23,6 +23,7 @@ use Rattle.cmd_build.specs.declared.command.Act.{Act}
 use Rattle.cmd_build.specs.declared.command.Command.{Command}
 use Rattle.cmd_build.specs.declared.extras.Extras.{Extras}
 use Rattle.cmd_build.specs.declared.extras.Sizes.{Sizes}
+use Rattle.pool_book.specs.Pool.{is_perished}
 use Rattle.pool_book.specs.declared.connections.Available.{Available}
 use Rattle.server_pick.specs.Candidates.{suitable}
 use Rattle.server_pick.specs.declared.criteria.Criteria.{Criteria}
@@ -138,9 +139,10 @@ abbrev pub IsPrimaryPreferred : Need → Type 0
 IsPrimaryPreferred need.Write = ⊥
 IsPrimaryPreferred (need.Read p) = (p.now.mode ≡ mode.PrimaryPreferred) × (p.now.tag_sets ≡ [])
 
--- A request ends some of the kept sessions: the next list of their ids, on an available connection of a server that a read
--- that prefers the primary may go to, and that carries no farewell yet (Driver Sessions, endSessions).
-pub record IsFarewell (w : ClientState) (r : Request) : Type 0 where
+-- A request ends some of the kept sessions: the next list of their ids, on an available connection that has not perished, of a
+-- server that a read that prefers the primary may go to, and that carries no farewell yet (Driver Sessions, endSessions; CMAP, a
+-- connection is perished).
+pub record IsFarewell (w : ClientState) (moment : ℕ) (r : Request) : Type 0 where
   pub minutes : ℤ
   pub has_sessions : session_minutes_of w.topology.servers ≡ Some minutes
   pub lists : List (List Lsid)
@@ -159,23 +161,24 @@ pub record IsFarewell (w : ClientState) (r : Request) : Type 0 where
   pub free : Available
   pub place : ℕ
   pub available : slice_get server.pool.state.available place ≡ Some free
+  pub sound : is_perished server.pool.state moment free ≡ false
   pub stream : stream_of server free.conn ≡ Some r.stream
   pub unused : list_any (nat_eq r.stream) w.farewells ≡ false
   pub bytes : r.bytes ≡ frame r.id (pos 0) 0 (farewell_document ids)
 
 -- ---- When a request may be queued, and what that does
 
-abbrev pub IsFor : Client → ClientState → Option ℕ → Purpose → Request → Type 0
-IsFor client w time (purpose.Command op) r = IsRequestOf client w time op r
-IsFor client w time purpose.Farewell r = IsFarewell w r
-IsFor client w time (purpose.Check host) r = Unit {0}
-IsFor client w time (purpose.Greeting host conn) r = Unit {0}
+abbrev pub IsFor : Client → ClientState → ℕ → Option ℕ → Purpose → Request → Type 0
+IsFor client w moment time (purpose.Command op) r = IsRequestOf client w time op r
+IsFor client w moment time purpose.Farewell r = IsFarewell w moment r
+IsFor client w moment time (purpose.Check host) r = Unit {0}
+IsFor client w moment time (purpose.Greeting host conn) r = Unit {0}
 
 -- The next request, with its id, and with the bytes of what it is for. A hello's stand where it is owed.
-pub record IsAsked (client : Client) (w : ClientState) (time : Option ℕ) (place : ℕ) (r : Request) : Type 0 where
+pub record IsAsked (client : Client) (w : ClientState) (moment : ℕ) (time : Option ℕ) (place : ℕ) (r : Request) : Type 0 where
   pub next : place ≡ w.requests
   pub id : r.id ≡ id_at place
-  pub is_for : IsFor client w time r.purpose r
+  pub is_for : IsFor client w moment time r.purpose r
 
 abbrev pub farewell_by : Purpose → ℕ → ClientState → ClientState
 farewell_by purpose.Farewell stream w = record w { is_ending = true; farewells = w.farewells ++ stream ∷ [] }

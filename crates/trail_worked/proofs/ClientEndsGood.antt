@@ -51,7 +51,7 @@ good = (
                                     (
                                       record { time = refl; turn = refl; going = tt; rule = record { running = _; there = refl; says = refl; session = (omega arith, (_, refl, (λ e. absurd (cc)), refl)) }; command = tt },
                                       (
-                                        record { time = omega arith; turn = tt; going = tt; rule = record { next = refl; id = refl; is_for = record { minutes = pos 30; has_sessions = minutes-in (spot_behind client_of_router (start client_of_router) (take 19 client_ends)).listed; lists = (session_id ∷ []) ∷ []; parted = parted_one (session_id ∷ []) refl (omega arith) (omega arith); ids = session_id ∷ []; next = refl; criteria = record { need = need.Read (record { ref_ptr = (0, 0); now = record { mode = mode.PrimaryPreferred; tag_sets = [] } }); avoid = None; threshold_micros = 15000 }; prefers = (refl, refl); avoids = refl; host = 0; server = _; at = refl; stays = refl; selectable = selectable_in (spot_behind client_of_router (start client_of_router) (take 19 client_ends)).listed (record { need = need.Read (record { ref_ptr = (0, 0); now = record { mode = mode.PrimaryPreferred; tag_sets = [] } }); avoid = None; threshold_micros = 15000 }) router; free = _; place = 0; available = refl; stream = refl; unused = refl; bytes = refl } }; command = tt },
+                                        record { time = omega arith; turn = tt; going = tt; rule = record { next = refl; id = refl; is_for = record { minutes = pos 30; has_sessions = minutes-in (spot_behind client_of_router (start client_of_router) (take 19 client_ends)).listed; lists = (session_id ∷ []) ∷ []; parted = parted_one (session_id ∷ []) refl (omega arith) (omega arith); ids = session_id ∷ []; next = refl; criteria = record { need = need.Read (record { ref_ptr = (0, 0); now = record { mode = mode.PrimaryPreferred; tag_sets = [] } }); avoid = None; threshold_micros = 15000 }; prefers = (refl, refl); avoids = refl; host = 0; server = _; at = refl; stays = refl; selectable = selectable_in (spot_behind client_of_router (start client_of_router) (take 19 client_ends)).listed (record { need = need.Read (record { ref_ptr = (0, 0); now = record { mode = mode.PrimaryPreferred; tag_sets = [] } }); avoid = None; threshold_micros = 15000 }) router; free = _; place = 0; available = refl; sound = refl; stream = refl; unused = refl; bytes = refl } }; command = tt },
                                         (
                                           record { time = omega arith; turn = tt; going = tt; rule = (_, refl, refl); command = tt },
                                           (

@@ -1,6 +1,8 @@
 -- Farewells, over lists.
-use Rattle.std.proofs.Common.{◌≡◌, ℕ, zero, suc, ◌<◌, ◌≤◌, true, List, [], ◌∷◌, ◌++◌, length, Some, refl, sym, ap, ◌∙◌, subst, slice_get, arith, is_some}
+use Rattle.std.proofs.Common.{◌≡◌, ℕ, zero, suc, ◌<◌, ◌≤◌, true, List, [], ◌∷◌, ◌++◌, length, Some, refl, sym, ap, ◌∙◌, subst, slice_get, arith, is_some, true≢false}
 use Rattle.std.specs.List.{list_any}
+use Rattle.pool_book.specs.Pool.{is_perished}
+use Rattle.pool_book.specs.declared.connections.Available.{Available}
 use Rattle.bson_doc.specs.declared.ids.Lsid.{Lsid}
 use Rattle.host_name.specs.Addresses.{Address, is_same_address}
 use Rattle.sess_book.specs.Ending.{IsParted, MOST_IDS}
@@ -37,14 +39,31 @@ pub selectable_in : (l : Listed) (criteria : Criteria) (address : Address) →
 selectable_in l criteria address = ap (λ ds. list_any (λ d. is_same_address d.host address) (suitable l.kind criteria ds)) (values-map_of l.rows)
 
 -- of the only server, which has no available connection, there is none
-pub no_connection_for : (w : ClientState) (r : Request) (x : ServerState) → w.servers ≡ x ∷ [] → x.pool.state.available ≡ [] → IsFarewell w r → ⊥
-no_connection_for w r x only none f = by f.host (subst (λ ss. slice_get ss f.host ≡ Some f.server) only f.at)
+pub no_connection_for : (w : ClientState) (moment : ℕ) (r : Request) (x : ServerState) → w.servers ≡ x ∷ [] → x.pool.state.available ≡ [] → IsFarewell w moment r → ⊥
+no_connection_for w moment r x only none f = by f.host (subst (λ ss. slice_get ss f.host ≡ Some f.server) only f.at)
   where
     by : (host : ℕ) → slice_get (x ∷ []) host ≡ Some f.server → ⊥
     by zero e =
         let server : f.server ≡ x = sym (same e) in
         let there = subst (λ xs. slice_get xs f.place ≡ Some f.free) (ap (λ (s : ServerState). s.pool.state.available) server ∙ none) f.available in
         clash (sym there) is_some refl refl
+    by (suc host) e = clash (sym e) is_some refl refl
+
+-- of the only server, whose only available connection has perished, there is none either
+pub perished_for : (w : ClientState) (moment : ℕ) (r : Request) (x : ServerState) (a : Available) → w.servers ≡ x ∷ [] →
+    x.pool.state.available ≡ a ∷ [] → is_perished x.pool.state moment a ≡ true → IsFarewell w moment r → ⊥
+perished_for w moment r x a only one perished f = by f.host (subst (λ ss. slice_get ss f.host ≡ Some f.server) only f.at)
+  where
+    at_place : (server : ServerState) (place : ℕ) → server ≡ x → slice_get (a ∷ []) place ≡ Some f.free → is_perished server.pool.state moment f.free ≡ false → ⊥
+    at_place server zero is e sound =
+        true≢false (sym perished ∙ (λ i. is_perished (sym is i).pool.state moment (same e i)) ∙ sound)
+    at_place server (suc place) is e sound = clash (sym e) is_some refl refl
+
+    by : (host : ℕ) → slice_get (x ∷ []) host ≡ Some f.server → ⊥
+    by zero e =
+        let server : f.server ≡ x = sym (same e) in
+        let there = subst (λ xs. slice_get xs f.place ≡ Some f.free) (ap (λ (s : ServerState). s.pool.state.available) server ∙ one) f.available in
+        at_place f.server f.place server there f.sound
     by (suc host) e = clash (sym e) is_some refl refl
 
 abbrev pub is_command : Purpose → Bool

@@ -13,6 +13,7 @@ mod PoolClearedGood
 mod StaleGreetingGood
 mod HostDroppedGood
 mod NoServerGood
+mod NoServerBehindCutGood
 mod DialFailedGood
 mod TooLargeGood
 mod CheckLateGood

@@ -19,7 +19,7 @@ good = (
         (
           record { time = omega arith; turn = tt; going = tt; rule = (_, refl, (0, record { stays = refl; since = refl })); command = tt },
           (
-            record { time = omega arith; turn = tt; going = tt; rule = ((_, refl, refl), looks client_with_deadline (spot_behind client_with_deadline (start client_with_deadline) (take 5 no_server)).point.state (spot_behind client_with_deadline (start client_with_deadline) (take 5 no_server)).listed 600100 0 7 8 [] _ (record { command = _; given = refl; running = _; there = refl; criteria = record { need = need.Write; avoid = None; threshold_micros = 15000 }; asks = record { needs = refl; avoids = refl; within = refl }; addresses = []; numbers = tt; sublist = tt; concludes = (omega arith, one_checked _ _ _ _ (runs 0 600100 refl refl (omega arith) (inl (omega arith)))) })); command = (_, refl, refl) },
+            record { time = omega arith; turn = tt; going = tt; rule = ((_, refl, refl), looks client_with_deadline (spot_behind client_with_deadline (start client_with_deadline) (take 5 no_server)).point.state (spot_behind client_with_deadline (start client_with_deadline) (take 5 no_server)).listed 600100 0 7 8 [] _ (record { command = _; given = refl; running = _; there = refl; criteria = record { need = need.Write; avoid = None; threshold_micros = 15000 }; asks = record { needs = refl; avoids = refl; within = refl }; addresses = []; numbers = tt; sublist = tt; concludes = (omega arith, one_checked _ _ _ _ _ (runs 0 600100 refl refl (omega arith) (inl (omega arith)))) })); command = (_, refl, refl) },
             (
               record { time = omega arith; turn = tt; going = tt; rule = (_, refl, record { answers = refl; free = refl; once = refl }); command = tt },
               tt,

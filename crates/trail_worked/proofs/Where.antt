@@ -8,7 +8,7 @@ use Rattle.hello_reply.specs.declared.server_kind.ServerKind.{ServerKind}
 use Rattle.cmd_build.specs.Commands.{command_document}
 use Rattle.cmd_build.specs.Sizes.{Excess, documents_of, first_over, message_size, over}
 use Rattle.cmd_build.specs.declared.command.Command.{Command}
-use Rattle.desk_trail.specs.Checks.{AreChecked, IsCheckedFor, MayCheckEnd, named_late, ended, runs}
+use Rattle.desk_trail.specs.Checks.{AreChecked, IsCheckedFor, MayCheckEnd, is_due, named_late, ended, runs}
 use Rattle.desk_trail.specs.Facts as fact
 use Rattle.desk_trail.specs.Looks.{AreNumbersOf, Concludes, IsKeptOf, NeedsFor, deadline, first_look, hosts_known, load_of}
 use Rattle.desk_trail.specs.Leases.{IsDraw, IsLease, IsReturn, SessionAllows, needs_number, session_step_of}
@@ -137,16 +137,22 @@ module _ (w : ClientState) (moment op : ℕ) (c : CommandState) where
   return_says dirty kept l there = l.says ∙ ap (λ (x : CommandState). x.is_dirty) (same (sym l.there ∙ there))
 
 -- the checks of the only server
-pub one_checked : (first deadline known : ℕ) (x : ServerState) → IsCheckedFor first deadline known 0 x →
-    (host : ℕ) (s : ServerState) → slice_get (x ∷ []) host ≡ Some s → s.has_left ≡ false → IsCheckedFor first deadline known host s
-one_checked first deadline known x h zero s e l = subst (IsCheckedFor first deadline known 0) (same e) h
-one_checked first deadline known x h (suc host) s e l = absurd (cc)
+pub one_checked : (moment first deadline known : ℕ) (x : ServerState) → IsCheckedFor moment first deadline known 0 x →
+    (host : ℕ) (s : ServerState) → slice_get (x ∷ []) host ≡ Some s → s.has_left ≡ false → IsCheckedFor moment first deadline known host s
+one_checked moment first deadline known x h zero s e l = subst (IsCheckedFor moment first deadline known 0) (same e) h
+one_checked moment first deadline known x h (suc host) s e l = absurd (cc)
 
-pub unchecked : (first deadline known host : ℕ) (s : ServerState) → s.named < deadline → s.checks.ended ≡ None → s.dry ≡ None →
-    IsCheckedFor first deadline known host s → ⊥
-unchecked first deadline known host s early none dry (named_late late) = absurd (omega arith)
-unchecked first deadline known host s early none dry (ended moment e h) = absurd (cc)
-unchecked first deadline known host s early none dry (runs began at e f h g) = absurd (cc)
+pub unchecked : (moment first deadline known host : ℕ) (s : ServerState) → s.named < deadline → s.checks.ended ≡ None → s.dry ≡ None →
+    IsCheckedFor moment first deadline known host s → ⊥
+unchecked moment first deadline known host s early none dry (named_late late) = absurd (omega arith)
+unchecked moment first deadline known host s early none dry (ended last e h d) = absurd (cc)
+unchecked moment first deadline known host s early none dry (runs began at e f h g) = absurd (cc)
+
+pub unchecked_while_due : (moment first deadline known host : ℕ) (s : ServerState) → s.named < deadline → is_due moment s ≡ true → s.dry ≡ None →
+    IsCheckedFor moment first deadline known host s → ⊥
+unchecked_while_due moment first deadline known host s early due dry (named_late late) = absurd (omega arith)
+unchecked_while_due moment first deadline known host s early due dry (ended last e h d) = true≢false (sym due ∙ d)
+unchecked_while_due moment first deadline known host s early due dry (runs began at e f h g) = absurd (cc)
 
 -- of no candidate none is kept
 pub not_kept : (w : ClientState) (host : ℕ) (addresses : List Address) → AreNumbersOf w (host ∷ []) addresses → IsKeptOf addresses [] → ⊥
@@ -216,7 +222,7 @@ module _ (client : Client) (w : ClientState) (l : Listed) (moment op a b : ℕ) 
 
   pub failed_says : (c : CommandState) → LookIn client w l moment op a b [] looked.Failed → slice_get w.commands op ≡ Some c →
       picks_in l (threshold client) [] (load_of (on w l)) a b ≡ picked.NoneFits →
-      (deadline client c moment ≤ moment) × AreChecked (on w l) (first_look c moment) (deadline client c moment) (hosts_known c)
+      (deadline client c moment ≤ moment) × AreChecked (on w l) moment (first_look c moment) (deadline client c moment) (hosts_known c)
   failed_says c k there none = concludes_none looked.Failed c k there none
 
   pub none_says : (c : CommandState) → LookIn client w l moment op a b [] looked.NoneFits → slice_get w.commands op ≡ Some c →

@@ -16,9 +16,9 @@ use Rattle.desk_trail.specs.declared.entry.OfferedHow.TheVariants as offered
 use Rattle.desk_trail.specs.Facts as fact
 use Rattle.trail_worked.specs.LeasedAgain.{router, mongos, session_id, numbered_bytes}
 
--- A client of the mongos with one insert, each option at its default.
+-- A client of the mongos with one insert, whose connections may be idle for a millisecond.
 abbrev pub client_of_router : Client
-client_of_router = client_with (plain_configuration (router ∷ []) None (codes "test")) (an_insert ∷ [])
+client_of_router = client_with (record (plain_configuration (router ∷ []) None (codes "test")) { idle_ms = 1 }) (an_insert ∷ [])
 
 abbrev pub client_ends : List (Timed Fact)
 client_ends =

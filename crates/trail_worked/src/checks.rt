@@ -6,7 +6,7 @@ ghost use Rattle.desk_trail.specs.declared.entry.CheckHow.TheVariants as check;
 ghost use Rattle.desk_trail.specs.declared.entry.LookedHow.TheVariants as looked;
 ghost use Rattle.desk_trail.specs.Facts as fact;
 ghost use Rattle.trail_worked.specs.OneInsert.{client_of_one};
-ghost use Rattle.trail_worked.specs.NoServer.{client_with_deadline, no_server};
+ghost use Rattle.trail_worked.specs.NoServer.{client_with_deadline, no_server, no_server_behind_a_cut};
 ghost use Rattle.trail_worked.specs.CheckLate.{check_late};
 
 /// A selection fails at its deadline: the check that runs was read there, and had no answer.
@@ -19,6 +19,17 @@ pub fn no_server_at_the_deadline()
     ensures none_yet_at_the_deadline { AreLegal client_with_deadline
         (instead no_server 5 (at 600100 (fact.Looked 0 7 8 [] looked.NoneFits))) → ⊥ }
     ensures answered_without_a_look { AreLegal client_with_deadline (left_out no_server 5) → ⊥ }
+{}
+
+/// A selection fails at its deadline while a check runs that it asked for: the first check was cut just ahead of its first look.
+pub fn no_server_behind_a_check_that_was_cut()
+    ensures legal { AreLegal client_with_deadline no_server_behind_a_cut }
+    ensures complete { AreComplete client_with_deadline no_server_behind_a_cut }
+    ensures failed_while_a_check_is_due { AreLegal client_with_deadline
+        (instead no_server_behind_a_cut 7 (at 600200 (fact.Looked 0 7 8 [] looked.Failed))) → ⊥ }
+    ensures a_check_within_half_a_second { AreLegal client_with_deadline
+        (instead no_server_behind_a_cut 7 (at 500099 (fact.CheckBegan 0 2))) → ⊥ }
+    ensures a_cut_check_that_clears_nothing { AreLegal client_with_deadline (left_out no_server_behind_a_cut 5) → ⊥ }
 {}
 
 /// A check of a known server ends late, and the next one begins at once; that one ends late too, and the next one waits.

@@ -20,6 +20,8 @@ pub fn a_client_ends()
         (put_in client_ends 20 (at 500 (fact.Asked 4 (farewell 2 (pos 5) (session_id ∷ []))))) → ⊥ }
     ensures a_farewell_on_a_connection_that_is_lent { AreLegal client_of_router
         (put_in client_ends 15 (at 350 (fact.Asked 3 (farewell 2 (pos 4) (session_id ∷ []))))) → ⊥ }
+    ensures a_farewell_on_a_connection_that_was_idle_too_long { AreLegal client_of_router
+        (instead client_ends 19 (at 1401 (fact.Asked 3 (farewell 2 (pos 4) (session_id ∷ []))))) → ⊥ }
     ensures its_connection_shut_as_stale { AreLegal client_of_router
         (instead client_ends 21 (at 500 (fact.ConnShut 0 1 reason.Stale))) → ⊥ }
     ensures a_pool_closed_twice { AreLegal client_of_router (instead client_ends 21 (at 500 (fact.PoolShut 0))) → ⊥ }

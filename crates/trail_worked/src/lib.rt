@@ -7,7 +7,7 @@
 //!   again (`LeasedAgain`), a failover with a retry (`Failover`), a command that is too large (`TooLarge`).
 //! - [`pools`]: a pool that is cleared (`PoolCleared`), a greeting that is stale (`StaleGreeting`), a host that is dropped
 //!   (`HostDropped`), a dial that fails (`DialFailed`).
-//! - [`checks`]: a selection that fails at its deadline (`NoServer`), checks that end late (`CheckLate`).
+//! - [`checks`]: selections that fail at their deadline (`NoServer`), checks that end late (`CheckLate`).
 //! - [`ending`]: the end of a client (`ClientEnds`).
 #![tactic(auto)]
 

@@ -1,6 +1,6 @@
 -- A command's attempts: what answers what was to be done next, and how attempts end (Retryable Writes).
-use Rattle.std.specs.Prelude.{◌≡◌, ◌≤◌, ℕ, ℤ, ◌+◌, Bool, true, false, ◌&&◌, ◌||◌, List, [], ◌∷◌, ◌++◌, Option, None, Some, is_some, slice_get, if◌then◌else◌}
-use Rattle.std.specs.Option.{option_map, option_map_or, option_and_then}
+use Rattle.std.specs.Prelude.{◌≡◌, ◌≤◌, ℕ, ◌+◌, Bool, true, false, ◌&&◌, ◌||◌, List, [], ◌∷◌, ◌++◌, Option, None, Some, is_some, slice_get, if◌then◌else◌}
+use Rattle.std.specs.Option.{option_and_then}
 use Rattle.cmd_outcome.specs.declared.reading.Reading.{Reading}
 use Rattle.cmd_outcome.specs.declared.reading.StateChange.{StateChange}
 use Rattle.hello_reply.specs.declared.server_description.ServerDescription.{ServerDescription}
@@ -12,7 +12,6 @@ use Rattle.write_retry.specs.Machine as machine
 use Rattle.write_retry.specs.Machine.{allows}
 use Rattle.write_retry.specs.declared.attempt_end.AttemptEnd.{AttemptEnd}
 use Rattle.write_retry.specs.declared.attempt_end.AttemptEnd.TheVariants as attempt
-use Rattle.write_retry.specs.declared.events.Next.{Next}
 use Rattle.write_retry.specs.declared.events.Next.TheVariants as next
 use Rattle.write_retry.specs.declared.events.OpEvent.{OpEvent}
 use Rattle.write_retry.specs.declared.events.OpEvent.TheVariants as op_event
@@ -24,7 +23,7 @@ use Rattle.desk_trail.specs.declared.entry.LookedHow.TheVariants as looked
 use Rattle.desk_trail.specs.declared.request.Purpose.{Purpose}
 use Rattle.desk_trail.specs.declared.request.Purpose.TheVariants as purpose
 use Rattle.desk_trail.specs.Clients.{Client, socket_limit}
-use Rattle.desk_trail.specs.States.{ClientState, ServerState, CommandState, CheckOut, Nothing, Waits, Dials, Has, Selected, description_of, with_command}
+use Rattle.desk_trail.specs.States.{ClientState, ServerState, CommandState, CheckOut, Nothing, Dials, Has, Selected, description_of, with_command}
 use Rattle.desk_trail.specs.Facts.{Fact}
 use Rattle.desk_trail.specs.Facts as fact
 use Rattle.desk_trail.specs.Leases.{IsEquipped}

@@ -1,8 +1,7 @@
 -- A client's checks of its servers (Server Monitoring).
 use Rattle.std.specs.Prelude.{◌≡◌, ◌≤◌, ◌<◌, ◌⊎◌, ℕ, ◌+◌, ◌-◌, Bool, true, false, not, ◌&&◌, List, [], ◌∷◌, Option, None, Some, map, is_some, nat_eq, nat_le, slice_get, if◌then◌else◌}
 use Rattle.std.specs.List.{list_any}
-use Rattle.std.specs.FinMap as map
-use Rattle.watch_step.specs.Checks.{Checks, HALF_SECOND}
+use Rattle.watch_step.specs.Checks.{HALF_SECOND}
 use Rattle.watch_step.specs.Entries as check
 use Rattle.watch_step.specs.Entries.{CheckEntry}
 use Rattle.watch_step.specs.Ends.{is_again}
@@ -12,9 +11,8 @@ use Rattle.topo_book.specs.Means.{stands_known}
 use Rattle.topo_rules.specs.declared.event.TopoEvent.TheVariants as event
 use Rattle.desk_trail.specs.declared.entry.CheckHow.{CheckHow}
 use Rattle.desk_trail.specs.declared.entry.CheckHow.TheVariants as how
-use Rattle.desk_trail.specs.declared.request.Purpose.TheVariants as purpose
 use Rattle.desk_trail.specs.Clients.{Client, connect_limit}
-use Rattle.desk_trail.specs.States.{ClientState, ServerState, Selection, with_server}
+use Rattle.desk_trail.specs.States.{ClientState, ServerState}
 use Rattle.desk_trail.specs.Owed.{Owed}
 use Rattle.desk_trail.specs.Owed as owed
 

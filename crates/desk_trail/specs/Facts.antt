@@ -1,5 +1,5 @@
 -- What a trail says, entry by entry, with what stands at the places that its entries name.
-use Rattle.std.specs.Prelude.{◌≡◌, ℕ, ℤ, Bool, true, List, Option, None, Some, is_some, slice_get, filter_map}
+use Rattle.std.specs.Prelude.{◌≡◌, ℕ, ℤ, Bool, true, List, Option, Some, is_some, slice_get, filter_map}
 use Rattle.std.specs.List.{list_all}
 use Rattle.std.specs.Option.{option_map}
 use Rattle.bson_doc.specs.declared.ids.Lsid.{Lsid}

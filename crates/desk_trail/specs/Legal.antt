@@ -8,7 +8,6 @@ use Rattle.write_retry.specs.declared.events.Unsent.{Unsent}
 use Rattle.write_retry.specs.declared.events.Unsent.TheVariants as unsent
 use Rattle.desk_trail.specs.declared.entry.CheckHow.{CheckHow}
 use Rattle.desk_trail.specs.declared.entry.CheckHow.TheVariants as how
-use Rattle.desk_trail.specs.declared.request.Purpose.{Purpose}
 use Rattle.desk_trail.specs.declared.request.Purpose.TheVariants as purpose
 use Rattle.desk_trail.specs.declared.step.Step.{Step}
 use Rattle.desk_trail.specs.Attempts.{AtCommand, CommandAllows, IsAnswer, IsEnd, IsToEnter, IsToLook, asked_by, command_step, commands_after, end_by, end_owes, finish_owes, finished, not_lent_offers, endpoint_at}

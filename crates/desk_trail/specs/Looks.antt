@@ -1,8 +1,6 @@
 -- A command's looks for a server (Server Selection).
-use denote.Ref.{Bor}
-use Rattle.std.specs.Prelude.{◌≡◌, ◌≤◌, ◌<◌, ◌⊎◌, ℕ, ◌+◌, ◌==◌, Bool, true, false, not, ◌&&◌, List, [], ◌∷◌, Option, None, Some, map, filter, length, is_some, slice_get, if◌then◌else◌}
-use Rattle.std.specs.Option.{option_map, option_map_or, option_and_then, option_or, option_copied}
-use Rattle.std.specs.FinMap as map
+use Rattle.std.specs.Prelude.{◌≡◌, ◌≤◌, ◌<◌, ◌⊎◌, ℕ, ◌+◌, ◌==◌, Bool, true, false, not, ◌&&◌, List, [], ◌∷◌, Option, None, Some, map, filter, length, is_some, slice_get}
+use Rattle.std.specs.Option.{option_map_or, option_and_then, option_copied}
 use Rattle.host_name.specs.Addresses.{Address}
 use Rattle.hello_reply.specs.declared.server_kind.ServerKind.{ServerKind}
 use Rattle.hello_reply.specs.declared.server_kind.ServerKind.TheVariants as server_kind
@@ -15,7 +13,6 @@ use Rattle.cmd_build.specs.declared.command.Act.{Act}
 use Rattle.cmd_build.specs.declared.command.Command.{Command}
 use Rattle.server_pick.specs.Candidates.{candidates}
 use Rattle.server_pick.specs.Picks.{picks}
-use Rattle.server_pick.specs.declared.candidate.Candidate.{Candidate}
 use Rattle.server_pick.specs.declared.criteria.Criteria.{Criteria}
 use Rattle.server_pick.specs.declared.criteria.Need.{Need}
 use Rattle.server_pick.specs.declared.criteria.Need.TheVariants as need
@@ -24,7 +21,7 @@ use Rattle.server_pick.specs.declared.picked.Picked.TheVariants as picked
 use Rattle.desk_trail.specs.declared.entry.LookedHow.{LookedHow}
 use Rattle.desk_trail.specs.declared.entry.LookedHow.TheVariants as looked
 use Rattle.desk_trail.specs.Clients.{Client, select_limit, threshold}
-use Rattle.desk_trail.specs.States.{ClientState, ServerState, Selected, Selection, CommandState, number_of, address_of, description_of, with_command}
+use Rattle.desk_trail.specs.States.{ClientState, Selected, Selection, CommandState, number_of, address_of, description_of, with_command}
 use Rattle.desk_trail.specs.Checks.{AreChecked, all_asked, due_from}
 use Rattle.desk_trail.specs.Owed.{Owed}
 

@@ -4,7 +4,6 @@ use Rattle.host_name.specs.Addresses.{Address}
 use Rattle.hello_reply.specs.declared.server_description.ServerDescription.{ServerDescription}
 use Rattle.topo_rules.specs.declared.event.TopoEvent.{TopoEvent}
 use Rattle.topo_rules.specs.declared.event.TopoEvent.TheVariants as event_of
-use Rattle.bson_doc.specs.declared.value.Document.{Document}
 use Rattle.msg_wire.specs.Framing.{frame}
 use Rattle.cmd_build.specs.Handshakes.{hello_document}
 use Rattle.write_retry.specs.Machine.{answers_send}

@@ -1,7 +1,6 @@
 -- A client's pools: which entry of its pool an entry of the trail is.
-use Rattle.std.specs.Prelude.{◌≡◌, ℕ, Bool, ◌&&◌, ◌==◌, List, [], ◌∷◌, Option, None, Some, map, slice_get, if◌then◌else◌}
+use Rattle.std.specs.Prelude.{◌≡◌, ℕ, ◌&&◌, ◌==◌, List, [], ◌∷◌, Option, None, Some, map, slice_get, if◌then◌else◌}
 use Rattle.std.specs.Option.{option_map, option_and_then}
-use Rattle.entry_judge.specs.declared.timed.Timed.{Timed}
 use Rattle.entry_judge.specs.Groups as judge
 use Rattle.pool_book.specs.Pool.{Pool}
 use Rattle.pool_book.specs.Entries as pool

@@ -1,5 +1,4 @@
 -- A client's requests (MongoDB wire protocol; the commands' documents).
-use denote.Ref.{Bor}
 use Rattle.std.specs.Prelude.{◌≡◌, ℕ, ℤ, pos, ◌+◌, ◌%◌, Bool, true, false, List, [], ◌∷◌, ◌++◌, Option, None, Some, length, nat_eq, slice_get, if◌then◌else◌}
 use Rattle.std.specs.Option.{option_map, option_and_then, option_copied}
 use Rattle.std.specs.List.{list_any}
@@ -38,7 +37,6 @@ use Rattle.desk_trail.specs.declared.request.Request.{Request}
 use Rattle.desk_trail.specs.Clients.{Client}
 use Rattle.desk_trail.specs.States.{ClientState, ServerState, CommandState, Selected, Has, stream_of}
 use Rattle.desk_trail.specs.Looks.{preference_for}
-use Rattle.desk_trail.specs.Owed.{Owed}
 
 -- The id of the request at a place: requests count from 1, and behind 2,147,483,647 from 1 again (MongoDB wire protocol,
 -- requestID; own: how they count).

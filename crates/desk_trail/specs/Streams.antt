@@ -1,7 +1,7 @@
 -- What a trail says of each stream: the requests that were asked on it, in order, and what became of them. It is the trail's side
 -- of what a net's history says of the stream.
-use Rattle.std.specs.Prelude.{ℕ, ℤ, ◌+◌, Bool, true, false, ◌&&◌, ◌==◌, List, [], ◌∷◌, ◌++◌, Option, None, Some, fold, map, slice_get, option_to_list, if◌then◌else◌}
-use Rattle.std.specs.Option.{option_map, option_map_or}
+use Rattle.std.specs.Prelude.{ℕ, ℤ, ◌+◌, Bool, false, ◌&&◌, ◌==◌, List, [], ◌∷◌, ◌++◌, Option, None, Some, fold, map, slice_get, option_to_list, if◌then◌else◌}
+use Rattle.std.specs.Option.{option_map_or}
 use Rattle.cmd_outcome.specs.declared.reading.Reading.{Reading}
 use Rattle.topo_rules.specs.declared.event.TopoEvent.{TopoEvent}
 use Rattle.write_retry.specs.declared.attempt_end.AttemptEnd.{AttemptEnd}

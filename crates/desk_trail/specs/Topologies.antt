@@ -1,6 +1,6 @@
 -- A client's topology: what becomes of an event that is offered (SDAM).
-use Rattle.std.specs.Prelude.{◌≡◌, ◌↔◌, ℕ, ◌+◌, Bool, true, false, IsFalse, List, [], ◌∷◌, ◌++◌, Option, None, Some, map, filter_map, slice_get, option_to_list, if◌then◌else◌}
-use Rattle.std.specs.Option.{option_map, option_map_or, option_and_then}
+use Rattle.std.specs.Prelude.{◌≡◌, ◌↔◌, ℕ, ◌+◌, Bool, false, IsFalse, List, [], ◌∷◌, ◌++◌, Option, None, Some, map, filter_map, slice_get, option_to_list, if◌then◌else◌}
+use Rattle.std.specs.Option.{option_map_or, option_and_then}
 use Rattle.host_name.specs.Addresses.{Address}
 use Rattle.topo_rules.specs.declared.event.TopoEvent.{TopoEvent}
 use Rattle.topo_rules.specs.declared.event.TopoEvent.TheVariants.{Reply, Broken, Refused}

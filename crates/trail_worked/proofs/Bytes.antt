@@ -1,4 +1,4 @@
--- The bytes of the stories' inserts, and that they are not too large.
+-- The bytes of the worked trails' inserts, and that they are not too large.
 use Rattle.std.proofs.Common.{◌≡◌, ℕ, ℤ, ◌+◌, pos, true, List, [], ◌∷◌, ◌++◌, length, codes, Option, None, Some, refl, sym, ap, ◌∙◌, arith, eqb, get_or}
 use Rattle.std.proofs.lemmas.Fmt.{decimal_digit}
 use denote.Ref.{Bor}
@@ -92,7 +92,7 @@ module _ (mode : Option Mode) (read : Option (Bor Preference)) where
       excess an_insert (codes "test") (record { lsid = Some id; number = Some number; mode = mode; read = read }) None (record { max_doc = 16777216; max_message = 48000000 }) ≡ None
   fits_numbered id number e = ap not_over (spelled-numbered id number) ∙ e
 
--- the insert of the first story, written out
+-- the insert of the first worked trail, written out
 pub insert-literal : insert_bytes (pos 3) ≡ insert_message
 unfolding frame framing header
 insert-literal = ap (λ bytes. framing (pos 3) (pos 0) 0 bytes) (spelled-plain None None)

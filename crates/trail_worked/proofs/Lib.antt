@@ -6,7 +6,7 @@ mod Where
 mod Bytes
 mod Farewells
 mod OneInsertGood
-mod HandedOnGood
+mod LentAgainGood
 mod LeasedAgainGood
 mod FailoverGood
 mod PoolClearedGood

@@ -1,6 +1,6 @@
 pub mod Words
 pub mod OneInsert
-pub mod HandedOn
+pub mod LentAgain
 pub mod LeasedAgain
 pub mod Failover
 pub mod PoolCleared

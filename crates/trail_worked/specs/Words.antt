@@ -1,4 +1,4 @@
--- What the stories are told in: hosts, requests and bytes of commands.
+-- What the worked trails are written in: hosts, requests and bytes of commands.
 use Rattle.std.specs.Prelude.{◌≡◌, ℕ, ℤ, pos, true, false, List, ◌∷◌, [], None, codes, slice_set, take, drop, ◌++◌, ◌+◌}
 use Rattle.bson_doc.specs.declared.ids.Lsid.{Lsid}
 use Rattle.host_name.specs.Addresses.{Address}
@@ -68,7 +68,7 @@ greeting server conn stream id = record { stream = stream; id = id; purpose = pu
 abbrev pub next_hello : (server stream : ℕ) → ℤ → Request
 next_hello server stream id = record { stream = stream; id = id; purpose = purpose.Check server; bytes = later_hello id }
 
--- A command's command_request, of these bytes.
+-- A command's request, of these bytes.
 abbrev pub command_request : (op stream : ℕ) → ℤ → List ℕ → Request
 command_request op stream id bytes = record { stream = stream; id = id; purpose = purpose.Command op; bytes = bytes }
 

@@ -1,4 +1,4 @@
-//! Stories of checks and of looks for a server.
+//! Worked trails of checks and of looks for a server.
 ghost use Rattle.std.specs.Prelude.{[]};
 ghost use Rattle.desk_trail.specs.Legal.{AreLegal};
 ghost use Rattle.trail_worked.specs.Words.{at, instead, left_out, AreComplete};

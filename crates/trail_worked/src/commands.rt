@@ -1,4 +1,4 @@
-//! Stories of commands: from a look for a server to the answer.
+//! Worked trails of commands: from a look for a server to the answer.
 ghost use Rattle.std.specs.Prelude.{◌≡◌, pos, true, false, [], ◌∷◌, Some};
 ghost use Rattle.desk_trail.specs.Legal.{AreLegal, IsLegal, IsComplete};
 ghost use Rattle.trail_worked.specs.Words.{at, instead, put_in, left_out, command_request, AreComplete};
@@ -8,7 +8,7 @@ ghost use Rattle.desk_trail.specs.declared.entry.LookedHow.TheVariants as looked
 ghost use Rattle.desk_trail.specs.declared.entry.OfferedHow.TheVariants as offered;
 ghost use Rattle.desk_trail.specs.Facts as fact;
 ghost use Rattle.trail_worked.specs.OneInsert.{client_of_one, standalone, insert_bytes, one_insert, insert_message, lists, steps};
-ghost use Rattle.trail_worked.specs.HandedOn.{client_of_three, handed_on};
+ghost use Rattle.trail_worked.specs.LentAgain.{client_of_three, lent_again};
 ghost use Rattle.trail_worked.specs.LeasedAgain.{client_of_two, other_id, numbered_bytes, leased_again};
 ghost use Rattle.trail_worked.specs.Failover.{client_of_set, failover};
 ghost use Rattle.trail_worked.specs.TooLarge.{too_large};
@@ -35,17 +35,17 @@ pub fn one_insert_with_its_check()
 {}
 
 /// Two inserts over one connection: the second one waits, and then gets the connection that the first one gave back.
-pub fn a_connection_is_handed_on()
-    ensures legal { AreLegal client_of_three handed_on }
-    ensures complete { AreComplete client_of_three handed_on }
+pub fn a_connection_is_lent_again()
+    ensures legal { AreLegal client_of_three lent_again }
+    ensures complete { AreComplete client_of_three lent_again }
     ensures lent_to_the_second_in_line { AreLegal client_of_three
-        (instead handed_on 20 (at 410 (fact.Lent 2 0 1))) → ⊥ }
-    ensures lent_while_another_has_it { AreLegal client_of_three (instead handed_on 17 (at 400 (fact.Lent 1 0 1))) → ⊥ }
+        (instead lent_again 20 (at 410 (fact.Lent 2 0 1))) → ⊥ }
+    ensures lent_while_another_has_it { AreLegal client_of_three (instead lent_again 17 (at 400 (fact.Lent 1 0 1))) → ⊥ }
     ensures one_more_connection_than_the_pool_may_have { AreLegal client_of_three
-        (put_in handed_on 14 (at 300 (fact.Dialled 1 0 2 (Some 3)))) → ⊥ }
+        (put_in lent_again 14 (at 300 (fact.Dialled 1 0 2 (Some 3)))) → ⊥ }
     ensures sent_while_it_waits { AreLegal client_of_three
-        (instead handed_on 20 (at 410 (fact.Asked 3 (command_request 1 2 (pos 4) (insert_bytes (pos 4)))))) → ⊥ }
-    ensures answered_with_the_connection_in_hand { AreLegal client_of_three (left_out handed_on 18) → ⊥ }
+        (instead lent_again 20 (at 410 (fact.Asked 3 (command_request 1 2 (pos 4) (insert_bytes (pos 4)))))) → ⊥ }
+    ensures answered_ahead_of_the_check_in { AreLegal client_of_three (left_out lent_again 18) → ⊥ }
 {}
 
 /// Two inserts one after another with one session, and the numbers 1 and 2.

@@ -1,4 +1,4 @@
-//! Stories of the end of a client.
+//! Worked trails of the end of a client.
 ghost use Rattle.std.specs.Prelude.{pos, [], ◌∷◌};
 ghost use Rattle.desk_trail.specs.Legal.{AreLegal};
 ghost use Rattle.trail_worked.specs.Words.{at, instead, put_in, command_request, AreComplete, farewell};

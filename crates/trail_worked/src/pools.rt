@@ -1,4 +1,4 @@
-//! Stories of pools: what becomes of those who wait, of connections that are made, and of those that are lent.
+//! Worked trails of pools: what becomes of those who wait, of connections that are made, and of those that are lent.
 ghost use Rattle.std.specs.Prelude.{false, Some};
 ghost use Rattle.desk_trail.specs.Legal.{AreLegal};
 ghost use Rattle.trail_worked.specs.Words.{at, instead, put_in, left_out, AreComplete};

@@ -1,4 +1,4 @@
-//! The first story as code writes it, with ample memory.
+//! The first worked trail as code writes it, with ample memory.
 use crate::writing::{Told, one_insert_written};
 use bson_doc::Bytes;
 use desk_trail::{Purpose, Request};

@@ -1,4 +1,4 @@
-//! The first story as code writes it.
+//! The first worked trail as code writes it.
 ghost use Rattle.std.specs.Prelude.{◌≡◌, [], ◌∷◌, IfOk};
 ghost use Rattle.desk_trail.specs.Written.{lists_of};
 ghost use Rattle.desk_trail.specs.declared.entry.Entry.TheVariants as entry;
@@ -17,7 +17,7 @@ use std::alloc::Global;
 use topo_rules::TopoEvent;
 use write_retry::{AttemptEnd, Outcome};
 
-/// What the story of one insert is written with: the seed, its reply, and the three requests.
+/// What the trail of one insert is written with: the seed, its reply, and the three requests.
 #[derive(Debug, Drop)]
 pub struct Told {
     /// The seed.

@@ -1,4 +1,4 @@
--- The trail of HandedOn stands, entry by entry.
+-- The trail of LentAgain stands, entry by entry.
 use Rattle.std.proofs.Common.{true, [], ◌∷◌, None, Some, refl, inl, arith, take}
 use Rattle.trail_worked.proofs.Rules.{start, looks, offers}
 use Rattle.trail_worked.proofs.Spots.{AreGood, spot_behind}
@@ -7,9 +7,9 @@ use Rattle.topo_rules.specs.declared.event.TopoEvent.TheVariants as event
 use Rattle.desk_trail.specs.declared.entry.OfferedHow.TheVariants as offered
 use Rattle.server_pick.specs.declared.criteria.Need.TheVariants as need
 use Rattle.trail_worked.specs.OneInsert.{alone, standalone}
-use Rattle.trail_worked.specs.HandedOn.{client_of_three, handed_on}
+use Rattle.trail_worked.specs.LentAgain.{client_of_three, lent_again}
 
-pub good : AreGood client_of_three (start client_of_three) handed_on
+pub good : AreGood client_of_three (start client_of_three) lent_again
 good = (
   record { time = refl; turn = refl; going = tt; rule = refl; command = tt },
   (
@@ -19,11 +19,11 @@ good = (
       (
         record { time = omega arith; turn = tt; going = tt; rule = (_, refl, (0, record { stays = refl; since = refl }, refl)); command = tt },
         (
-          record { time = refl; turn = record { description = standalone; says = refl; of_host = refl }; going = tt; rule = offers (spot_behind client_of_three (start client_of_three) (take 4 handed_on)) 0 (event.Reply standalone 100) (offered.Accepted true) refl (λ h. absurd (cc), λ s. let k = s.kind in absurd (cc)); command = tt },
+          record { time = refl; turn = record { description = standalone; says = refl; of_host = refl }; going = tt; rule = offers (spot_behind client_of_three (start client_of_three) (take 4 lent_again)) 0 (event.Reply standalone 100) (offered.Accepted true) refl (λ h. absurd (cc), λ s. let k = s.kind in absurd (cc)); command = tt },
           (
             record { time = refl; turn = refl; going = tt; rule = (_, refl, refl); command = tt },
             (
-              record { time = omega arith; turn = tt; going = tt; rule = ((_, refl, refl), looks client_of_three (spot_behind client_of_three (start client_of_three) (take 6 handed_on)).point.state (spot_behind client_of_three (start client_of_three) (take 6 handed_on)).listed 200 0 7 8 (0 ∷ []) _ (record { command = _; given = refl; running = _; there = refl; criteria = record { need = need.Write; avoid = None; threshold_micros = 15000 }; asks = record { needs = refl; avoids = refl; within = refl }; addresses = alone ∷ []; numbers = (refl, tt); sublist = inl (refl, tt); concludes = refl })); command = (_, refl, refl) },
+              record { time = omega arith; turn = tt; going = tt; rule = ((_, refl, refl), looks client_of_three (spot_behind client_of_three (start client_of_three) (take 6 lent_again)).point.state (spot_behind client_of_three (start client_of_three) (take 6 lent_again)).listed 200 0 7 8 (0 ∷ []) _ (record { command = _; given = refl; running = _; there = refl; criteria = record { need = need.Write; avoid = None; threshold_micros = 15000 }; asks = record { needs = refl; avoids = refl; within = refl }; addresses = alone ∷ []; numbers = (refl, tt); sublist = inl (refl, tt); concludes = refl })); command = (_, refl, refl) },
               (
                 record { time = omega arith; turn = tt; going = tt; rule = ((_, refl, record { chose = refl; free = refl; equipped = record { session = refl; number = refl } }), (_, refl, refl)); command = tt },
                 (
@@ -31,11 +31,11 @@ good = (
                   (
                     record { time = refl; turn = record { on = refl; is_for = refl; bytes = refl }; going = tt; rule = record { next = refl; id = refl; is_for = tt }; command = tt },
                     (
-                      record { time = omega arith; turn = tt; going = tt; rule = ((_, refl, refl), looks client_of_three (spot_behind client_of_three (start client_of_three) (take 10 handed_on)).point.state (spot_behind client_of_three (start client_of_three) (take 10 handed_on)).listed 250 1 7 8 (0 ∷ []) _ (record { command = _; given = refl; running = _; there = refl; criteria = record { need = need.Write; avoid = None; threshold_micros = 15000 }; asks = record { needs = refl; avoids = refl; within = refl }; addresses = alone ∷ []; numbers = (refl, tt); sublist = inl (refl, tt); concludes = refl })); command = (_, refl, refl) },
+                      record { time = omega arith; turn = tt; going = tt; rule = ((_, refl, refl), looks client_of_three (spot_behind client_of_three (start client_of_three) (take 10 lent_again)).point.state (spot_behind client_of_three (start client_of_three) (take 10 lent_again)).listed 250 1 7 8 (0 ∷ []) _ (record { command = _; given = refl; running = _; there = refl; criteria = record { need = need.Write; avoid = None; threshold_micros = 15000 }; asks = record { needs = refl; avoids = refl; within = refl }; addresses = alone ∷ []; numbers = (refl, tt); sublist = inl (refl, tt); concludes = refl })); command = (_, refl, refl) },
                       (
                         record { time = omega arith; turn = tt; going = tt; rule = ((_, refl, record { chose = refl; free = refl; equipped = record { session = refl; number = refl } }), (_, refl, refl)); command = tt },
                         (
-                          record { time = omega arith; turn = tt; going = tt; rule = ((_, refl, refl), looks client_of_three (spot_behind client_of_three (start client_of_three) (take 12 handed_on)).point.state (spot_behind client_of_three (start client_of_three) (take 12 handed_on)).listed 260 2 7 8 (0 ∷ []) _ (record { command = _; given = refl; running = _; there = refl; criteria = record { need = need.Write; avoid = None; threshold_micros = 15000 }; asks = record { needs = refl; avoids = refl; within = refl }; addresses = alone ∷ []; numbers = (refl, tt); sublist = inl (refl, tt); concludes = refl })); command = (_, refl, refl) },
+                          record { time = omega arith; turn = tt; going = tt; rule = ((_, refl, refl), looks client_of_three (spot_behind client_of_three (start client_of_three) (take 12 lent_again)).point.state (spot_behind client_of_three (start client_of_three) (take 12 lent_again)).listed 260 2 7 8 (0 ∷ []) _ (record { command = _; given = refl; running = _; there = refl; criteria = record { need = need.Write; avoid = None; threshold_micros = 15000 }; asks = record { needs = refl; avoids = refl; within = refl }; addresses = alone ∷ []; numbers = (refl, tt); sublist = inl (refl, tt); concludes = refl })); command = (_, refl, refl) },
                           (
                             record { time = omega arith; turn = tt; going = tt; rule = ((_, refl, record { chose = refl; free = refl; equipped = record { session = refl; number = refl } }), (_, refl, refl)); command = tt },
                             (

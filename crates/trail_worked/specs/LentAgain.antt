@@ -19,8 +19,8 @@ use Rattle.trail_worked.specs.OneInsert.{alone, standalone, insert_bytes}
 abbrev pub client_of_three : Client
 client_of_three = client_with (record (plain_configuration (alone ∷ []) None (codes "test")) { max_pool = 1 }) (an_insert ∷ an_insert ∷ an_insert ∷ [])
 
-abbrev pub handed_on : List (Timed Fact)
-handed_on =
+abbrev pub lent_again : List (Timed Fact)
+lent_again =
     at 0 (fact.Named 0 alone)  -- 0: the seed is named
     ∷ at 0 (fact.CheckBegan 0 1)  -- 1: its first check begins at once, on stream 1
     ∷ at 0 (fact.Asked 0 (check_hello 0 1 (pos 1)))  -- 2: with a hello

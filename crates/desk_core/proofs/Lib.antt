@@ -1,0 +1,14 @@
+mod HelloLemmas
+mod AppendsLemmas
+mod ServerLemmas
+mod KeptLemmas
+mod CheckLemmas
+mod DueLemmas
+mod ShutLemmas
+mod PoolLemmas
+mod FollowLemmas
+mod ApartLemmas
+mod OfferLemmas
+mod DropLemmas
+mod HostsLemmas
+mod DriveLemmas

@@ -1,0 +1,12 @@
+use Rattle.std.proofs.Common.{◌+◌, ◌++◌, List, ap, arith}
+use Rattle.std.specs.Option.{option_and_then}
+use Rattle.desk_trail.specs.Owed.{Owed}
+use Rattle.desk_trail.specs.States.{number_of}
+use Rattle.desk_trail.specs.Topologies.{cleared}
+use Rattle.desk_core.proofs.FollowLemmas.{IsWriting-same}
+use Rattle.desk_core.proofs.state.Core.clear_some.Goals as goal
+
+pub returns-in-Some-clause-writing : goal.returns-in-Some-clause-writing
+returns-in-Some-clause-writing g c = λ rest n before.
+    c.clear_at.ensures.writing rest n
+    (IsWriting-same c.args.self.now c.args.moment (n + 1) (n + 1) _ _ (omega arith) (ap (λ o. cleared (option_and_then (number_of c.args.self.now.trail.point.state) o) ++ rest) c.in-Some.is) before)

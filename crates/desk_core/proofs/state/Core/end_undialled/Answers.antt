@@ -1,0 +1,215 @@
+use Rattle.std.proofs.Common.{◌≡◌, ◌+◌, ◌++◌, [], length, None, Some, refl, sym, ap, ◌∙◌, subst, arith}
+use Rattle.std.specs.Prelude.{drop, slice_get}
+use Rattle.std.proofs.lemmas.List.{length-map}
+use Rattle.std.proofs.lemmas.Option.{slice_get_within}
+use Rattle.topo_book.specs.Means.{stands_known}
+use Rattle.topo_rules.specs.Laws.{listed_by}
+use Rattle.topo_rules.specs.declared.event.TopoEvent.TheVariants as event_of
+use Rattle.desk_trail.specs.declared.entry.CheckHow.{CheckHow}
+use Rattle.desk_trail.specs.declared.entry.CheckHow.TheVariants as how_of
+use Rattle.desk_trail.specs.declared.entry.Entry.TheVariants as entry_of
+use Rattle.desk_trail.specs.declared.room.Room.{Room}
+use Rattle.desk_trail.specs.Checks.{AtServer, MayCheckEnd, check_ends, kept_stream, offered_of}
+use Rattle.desk_trail.specs.Facts.{Lists}
+use Rattle.desk_trail.specs.Facts as fact
+use Rattle.desk_trail.specs.Legal.{Point}
+use Rattle.desk_trail.specs.States.{ClientState, ServerState}
+use Rattle.desk_trail.specs.Written.{IsAtLeast, an_entry}
+use Rattle.legal_trail.specs.Recorded.{Recorded}
+use Rattle.desk_core.proofs.AppendsLemmas.{Appends-adds, Appends-quiet, Appends-refl, Appends-room, Appends-trans, AreLonger-refl}
+use Rattle.desk_core.proofs.CheckLemmas.{IsKept-ended, IsOwedBy-broken, StandsAt-ended, all_same, none_kept}
+use Rattle.desk_core.proofs.DropLemmas.{read-there}
+use Rattle.desk_core.proofs.KeptLemmas.{IsKept-room}
+use Rattle.desk_core.proofs.OfferLemmas.{OnOk-by}
+use Rattle.desk_core.proofs.state.Core.end_undialled.Goals as goal
+
+pub returns-in_err-end-clause-appends : goal.returns-in_err-end-clause-appends
+returns-in_err-end-clause-appends g c = rw (← c.self.view_is) (Appends-refl c.args.moment c.self.inside.wired.trail)
+
+pub returns-in_err-room-clause-appends : goal.returns-in_err-room-clause-appends
+returns-in_err-room-clause-appends g c = rw (← c.self.view_is) (Appends-refl c.args.moment c.self.inside.wired.trail)
+
+pub invariant_of-self : goal.invariant_of-self
+invariant_of-self g c =
+    IsKept-room c.self.inside.wired c.reserve.new.self c.self.inside.topology.topology c.self.inside.servers.items c.self.inside.gossip c.self.inside.standing c.self.inside.last c.self.inside.stopped
+    c.reserve.ensures.same c.reserve.ensures.kept c.self.invariant
+
+pub returns-in_err-reserve-clause-appends : goal.returns-in_err-reserve-clause-appends
+returns-in_err-reserve-clause-appends g c =
+    rw (← c.self.view_is)
+    (Appends-room c.args.moment c.self.inside.wired.trail c.reserve.new.self.trail c.reserve.new.self.trail.room (ap (λ s. s.trail) c.reserve.ensures.same))
+
+pub index-requires-2 : goal.index-requires-2
+index-requires-2 g c =
+    let ready = rw (← c.self.view_is) at c.requires.ready in
+    let due = rw (← c.self.view_is) at c.requires.due in
+    let h = c.self.invariant.leads ready.runs in
+    let there : slice_get c.self.inside.servers.items c.args.host ≡ Some due.0 = ap (λ (s : ClientState). slice_get s.servers c.args.host) (sym h.state) ∙ due.1 in
+    let within = slice_get_within c.self.inside.servers.items c.args.host due.0 there in
+    omega (arith, c.self.inside.servers.ok)
+
+pub append-requires-clause-stands : goal.append-requires-clause-stands
+append-requires-clause-stands g c =
+    let ready = rw (← c.self.view_is) at c.requires.ready in
+    let due = rw (← c.self.view_is) at c.requires.due in
+    let h = c.self.invariant.leads ready.runs in
+    let point : c.reserve.new.self.trail.point ≡ c.self.inside.wired.trail.point = ap (λ s. s.trail.point) c.reserve.ensures.same in
+    let ahead : c.reserve.new.self.trail.point.moment ≡ c.self.inside.wired.trail.point.moment = ap (λ (p : Point). p.moment) point in
+    let how : c.in_ok-end.end.how ≡ how_of.NoDial = ap (λ e. e.how) c.in_ok-end.ensures in
+    let moment = h.moment in
+    let now = ready.now in (
+      fact.CheckEnded c.args.host c.in_ok-end.end.how,
+      refl,
+      StandsAt-ended c.reserve.new.self.trail.client c.reserve.new.self.trail.point c.args.moment c.args.host c.in_ok-end.end.how (ap (λ (p : Point). p.owed) point ∙ ready.paid)
+          (omega arith) (ap (λ (p : Point). p.state.is_ending) point ∙ ap (λ (s : ClientState). s.is_ending) h.state)
+          (subst (λ (k : CheckHow). AtServer c.reserve.new.self.trail.point.state c.args.host (MayCheckEnd c.reserve.new.self.trail.client c.args.moment k)) (sym how)
+          (due.0, ap (λ (p : Point). slice_get p.state.servers c.args.host) point ∙ due.1, (due.2.0, due.2.1))),
+    )
+
+pub index_mut-server-requires : goal.index_mut-server-requires
+index_mut-server-requires g c =
+    let ready = rw (← c.self.view_is) at c.requires.ready in
+    let due = rw (← c.self.view_is) at c.requires.due in
+    let h = c.self.invariant.leads ready.runs in
+    let there : slice_get c.self.inside.servers.items c.args.host ≡ Some due.0 = ap (λ (s : ClientState). slice_get s.servers c.args.host) (sym h.state) ∙ due.1 in
+    let within = slice_get_within c.self.inside.servers.items c.args.host due.0 there in
+    omega (arith, c.self.inside.servers.ok)
+
+pub end_check-requires-clause-stays : goal.end_check-requires-clause-stays
+end_check-requires-clause-stays g c =
+    let ready = rw (← c.self.view_is) at c.requires.ready in
+    let due = rw (← c.self.view_is) at c.requires.due in
+    let h = c.self.invariant.leads ready.runs in
+    let there : slice_get c.self.inside.servers.items c.args.host ≡ Some due.0 = ap (λ (s : ClientState). slice_get s.servers c.args.host) (sym h.state) ∙ due.1 in
+    let is : c.index_mut-server.result.now ≡ due.0 =
+    read-there c.self.inside.servers.items c.args.host due.0 c.index_mut-server.result.now there c.index_mut-server.ensures.value in
+    ap (λ (s : ServerState). s.has_left) is ∙ due.2.0.stays
+
+pub end_check-requires-clause-idle : goal.end_check-requires-clause-idle
+end_check-requires-clause-idle g c = λ n.
+    let ready = rw (← c.self.view_is) at c.requires.ready in
+    let due = rw (← c.self.view_is) at c.requires.due in
+    let h = c.self.invariant.leads ready.runs in
+    let there : slice_get c.self.inside.servers.items c.args.host ≡ Some due.0 = ap (λ (s : ClientState). slice_get s.servers c.args.host) (sym h.state) ∙ due.1 in
+    let is : c.index_mut-server.result.now ≡ due.0 =
+    read-there c.self.inside.servers.items c.args.host due.0 c.index_mut-server.result.now there c.index_mut-server.ensures.value in
+    ap (λ (s : ServerState). s.checks.began) is ∙ due.2.0.rests
+
+pub invariant_of-self-2 : goal.invariant_of-self-2
+invariant_of-self-2 g c =
+    let ready = rw (← c.self.view_is) at c.requires.ready in
+    let due = rw (← c.self.view_is) at c.requires.due in
+    let h = c.self.invariant.leads ready.runs in
+    let r : Recorded = c.reserve.new.self.trail in
+    let how : c.in_ok-end.end.how ≡ how_of.NoDial = ap (λ e. e.how) c.in_ok-end.ensures in
+    let kept =
+    IsKept-room c.self.inside.wired c.reserve.new.self c.self.inside.topology.topology c.self.inside.servers.items c.self.inside.gossip c.self.inside.standing c.self.inside.last c.self.inside.stopped
+    c.reserve.ensures.same c.reserve.ensures.kept c.self.invariant in
+    let there : slice_get c.self.inside.servers.items c.args.host ≡ Some due.0 = ap (λ (s : ClientState). slice_get s.servers c.args.host) (sym h.state) ∙ due.1 in
+    let is : c.index_mut-server.result.now ≡ due.0 =
+    read-there c.self.inside.servers.items c.args.host due.0 c.index_mut-server.result.now there c.index_mut-server.ensures.value in
+    let read : c.index-2.result.now ≡ due.0 = read-there c.self.inside.servers.items c.args.host due.0 c.index-2.result.now there c.index-2.ensures in
+    let known : c.is_known-known.result ≡ stands_known c.self.inside.topology.topology due.0.address =
+    c.is_known-known.ensures ∙ ap (stands_known c.self.inside.topology.topology) (c.host-2.ensures ∙ ap (λ (s : ServerState). s.address) read) in
+    let adds = c.append.ensures.adds (fact.CheckEnded c.args.host c.in_ok-end.end.how) refl in
+    let more : IsAtLeast (record { names = 0; events = 0; sessions = 0; requests = 0; steps = c.self.inside.standing + 1 }) r.room =
+    subst (λ (m : Room). IsAtLeast m r.room) c.in_ok-room.ensures c.in_ok-reserve.ensures.room in
+    let steps = more.steps in
+    let used = adds.room_used.steps in
+    IsKept-ended r c.append.new.self.trail c.reserve.new.self.lines c.append.new.self.lines c.self.inside.topology.topology c.self.inside.servers.items c.self.inside.gossip
+    c.self.inside.standing c.self.inside.last c.args.moment c.args.host c.self.inside.stopped c.in_ok-end.end.how c.is_known-known.result due.0 c.end_check.new.self
+    (entry_of.CheckEnded c.args.host c.in_ok-end.end.how) adds there (λ n. due.2.1) (none_kept (ap (λ k. kept_stream k due.0.check_stream) how))
+    (all_same (ap (λ s. s.lines) c.append.ensures.same)) ready.now (omega arith) known
+    (c.end_check.ensures ∙ ap (check_ends c.args.moment c.in_ok-end.end.how c.is_known-known.result) is) kept
+
+pub offer-requires-clause-writing : goal.offer-requires-clause-writing
+offer-requires-clause-writing g c =
+    let ready = rw (← c.self.view_is) at c.requires.ready in
+    let due = rw (← c.self.view_is) at c.requires.due in
+    let h = c.self.invariant.leads ready.runs in
+    let r : Recorded = c.reserve.new.self.trail in
+    let k : CheckHow = c.in_ok-end.end.how in
+    let how : k ≡ how_of.NoDial = ap (λ e. e.how) c.in_ok-end.ensures in
+    let point : r.point ≡ c.self.inside.wired.trail.point = ap (λ s. s.trail.point) c.reserve.ensures.same in
+    let there : slice_get c.self.inside.servers.items c.args.host ≡ Some due.0 = ap (λ (s : ClientState). slice_get s.servers c.args.host) (sym h.state) ∙ due.1 in
+    let read : c.index.result.now ≡ due.0 = read-there c.self.inside.servers.items c.args.host due.0 c.index.result.now there c.index.ensures in
+    let event : c.in_ok-end.end.event ≡ event_of.Broken due.0.address None =
+    ap (λ e. e.event) c.in_ok-end.ensures ∙ ap (λ a. event_of.Broken a None) (c.host.ensures ∙ ap (λ (s : ServerState). s.address) read) in
+    let o = IsOwedBy-broken k due.0 c.in_ok-end.end.event how event in
+    let adds = c.append.ensures.adds (fact.CheckEnded c.args.host k) refl in
+    let more : IsAtLeast (record { names = 0; events = 0; sessions = 0; requests = 0; steps = c.self.inside.standing + 1 }) r.room =
+    subst (λ (m : Room). IsAtLeast m r.room) c.in_ok-room.ensures c.in_ok-reserve.ensures.room in
+    let steps = more.steps in
+    let used = adds.room_used.steps in (
+      o.first,
+      [],
+      record {
+        runs = ready.runs;
+        owes =
+            ap (λ (p : Point). p.owed) adds.point_now
+            ∙ ap (λ (p : Point). offered_of k (slice_get p.state.servers c.args.host) ++ drop 1 p.owed) point
+            ∙ ap (λ x. offered_of k x ++ drop 1 c.self.inside.wired.trail.point.owed) due.1
+            ∙ ap (λ ds. offered_of k (Some due.0) ++ drop 1 ds) ready.paid ∙ ap (λ ds. ds ++ []) o.is;
+        at = ap (λ (p : Point). p.moment) adds.point_now;
+        now = ready.now;
+        space = omega arith;
+      },
+      o.offers,
+    )
+
+pub offer-requires-clause-count : goal.offer-requires-clause-count
+offer-requires-clause-count g c =
+    let ready = rw (← c.self.view_is) at c.requires.ready in
+    let h = c.self.invariant.leads ready.runs in
+    let adds = c.append.ensures.adds (fact.CheckEnded c.args.host c.in_ok-end.end.how) refl in
+    let count : length c.append.new.self.trail.lists.names ≡ length c.self.inside.servers.items =
+    ap (λ (l : Lists). length l.names) adds.lists_now ∙ ap (λ s. length s.trail.lists.names) c.reserve.ensures.same ∙ ap length h.names
+    ∙ length-map c.self.inside.servers.items (λ (s : ServerState). s.address) in
+    let numbers = h.numbers in
+    let listed : length (listed_by c.in_ok-end.end.event) ≡ 0 = ap (λ e. length (listed_by e.event)) c.in_ok-end.ensures in
+    omega arith
+
+pub returns-clause-ok : goal.returns-clause-ok
+returns-clause-ok g c =
+    let ready = rw (← c.self.view_is) at c.requires.ready in
+    let due = rw (← c.self.view_is) at c.requires.due in
+    let h = c.self.invariant.leads ready.runs in
+    let r : Recorded = c.reserve.new.self.trail in
+    let k : CheckHow = c.in_ok-end.end.how in
+    let how : k ≡ how_of.NoDial = ap (λ e. e.how) c.in_ok-end.ensures in
+    let point : r.point ≡ c.self.inside.wired.trail.point = ap (λ s. s.trail.point) c.reserve.ensures.same in
+    let there : slice_get c.self.inside.servers.items c.args.host ≡ Some due.0 = ap (λ (s : ClientState). slice_get s.servers c.args.host) (sym h.state) ∙ due.1 in
+    let read : c.index.result.now ≡ due.0 = read-there c.self.inside.servers.items c.args.host due.0 c.index.result.now there c.index.ensures in
+    let event : c.in_ok-end.end.event ≡ event_of.Broken due.0.address None =
+    ap (λ e. e.event) c.in_ok-end.ensures ∙ ap (λ a. event_of.Broken a None) (c.host.ensures ∙ ap (λ (s : ServerState). s.address) read) in
+    let o = IsOwedBy-broken k due.0 c.in_ok-end.end.event how event in
+    let adds = c.append.ensures.adds (fact.CheckEnded c.args.host k) refl in
+    let more : IsAtLeast (record { names = 0; events = 0; sessions = 0; requests = 0; steps = c.self.inside.standing + 1 }) r.room =
+    subst (λ (m : Room). IsAtLeast m r.room) c.in_ok-room.ensures c.in_ok-reserve.ensures.room in
+    let steps = more.steps in
+    let used = adds.room_used.steps in
+    OnOk-by c.offer.result _ _ (λ e. record { runs = e.runs; paid = e.owes; now = e.now })
+    (c.offer.ensures.ok o.first [] (record {
+      runs = ready.runs;
+      owes =
+          ap (λ (p : Point). p.owed) adds.point_now
+          ∙ ap (λ (p : Point). offered_of k (slice_get p.state.servers c.args.host) ++ drop 1 p.owed) point
+          ∙ ap (λ x. offered_of k x ++ drop 1 c.self.inside.wired.trail.point.owed) due.1
+          ∙ ap (λ ds. offered_of k (Some due.0) ++ drop 1 ds) ready.paid ∙ ap (λ ds. ds ++ []) o.is;
+      at = ap (λ (p : Point). p.moment) adds.point_now;
+      now = ready.now;
+      space = omega arith;
+    }))
+
+pub returns-clause-appends : goal.returns-clause-appends
+returns-clause-appends g c =
+    let old : Recorded = c.self.inside.wired.trail in
+    let r : Recorded = c.reserve.new.self.trail in
+    let between : Recorded = c.append.new.self.trail in
+    let k : CheckHow = c.in_ok-end.end.how in
+    rw (← c.self.view_is)
+    (Appends-trans c.args.moment old r c.offer.new.self.trail (Appends-room c.args.moment old r r.room (ap (λ s. s.trail) c.reserve.ensures.same))
+    (Appends-trans c.args.moment r between c.offer.new.self.trail
+    (Appends-adds an_entry r.lists c.args.moment (entry_of.CheckEnded c.args.host k) (fact.CheckEnded c.args.host k) r between (AreLonger-refl r.lists)
+    (c.append.ensures.adds (fact.CheckEnded c.args.host k) refl) (λ e. tt))
+    (Appends-quiet c.args.moment between c.offer.new.self.trail c.offer.ensures.appends)))

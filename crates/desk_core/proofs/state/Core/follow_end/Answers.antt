@@ -1,0 +1,23 @@
+use Rattle.std.proofs.Common.{◌∷◌, []}
+use Rattle.desk_core.proofs.AppendsLemmas.{Appends-trans}
+use Rattle.desk_core.proofs.OfferLemmas.{OnOk-by}
+use Rattle.desk_core.proofs.state.Core.follow_end.Goals as goal
+
+pub hear_time-requires-clause-writing : goal.hear_time-requires-clause-writing
+hear_time-requires-clause-writing g c = let w = c.requires.writing in (w.0 ∷ [], w.1)
+
+pub offer-requires-clause-writing : goal.offer-requires-clause-writing
+offer-requires-clause-writing g c = let w = c.requires.writing in (w.0, [], c.hear_time.ensures.writing (w.0 ∷ []) w.1, w.2)
+
+pub offer-requires-clause-count : goal.offer-requires-clause-count
+offer-requires-clause-count g c = rw c.hear_time.ensures.names c.requires.count
+
+pub returns-clause-ok : goal.returns-clause-ok
+returns-clause-ok g c =
+    let w = c.requires.writing in
+    OnOk-by c.offer.result _ _ (λ e. record { runs = e.runs; paid = e.owes; now = e.now })
+    (c.offer.ensures.ok w.0 [] (c.hear_time.ensures.writing (w.0 ∷ []) w.1))
+
+pub returns-clause-appends : goal.returns-clause-appends
+returns-clause-appends g c =
+    Appends-trans c.args.moment c.args.self.now.trail c.hear_time.new.self.trail c.offer.new.self.trail c.hear_time.ensures.appends c.offer.ensures.appends

@@ -1,0 +1,61 @@
+use Rattle.std.proofs.Common.{◌≡◌, ◌≢◌, None, true, false, refl, sym, ap, ◌∙◌, subst, arith}
+use Rattle.desk_trail.specs.declared.entry.Entry.TheVariants as entry_of
+use Rattle.desk_trail.specs.Facts.{Lists}
+use Rattle.desk_trail.specs.Facts as fact
+use Rattle.desk_trail.specs.Legal.{Exceeds, Point}
+use Rattle.desk_trail.specs.States.{ClientState}
+use Rattle.desk_trail.specs.Written.{an_entry}
+use Rattle.desk_core.proofs.AppendsLemmas.{Appends-adds, AreLonger-refl}
+use Rattle.desk_core.proofs.CheckLemmas.{Exceeds-kept, IsKept-told, StandsAt-told, exceeds}
+use Rattle.desk_core.proofs.state.Core.hear_time.Goals as goal
+
+pub append-requires-clause-stands : goal.append-requires-clause-stands
+append-requires-clause-stands g c =
+    let w = rw (← c.self.view_is) at c.requires.writing in
+    let h = c.self.invariant.leads w.1.runs in
+    let reply = rw (← c.self.view_is) at c.requires.reply in
+    let is = c.in-Some.is in
+    let news : exceeds c.in-Some.time.stamp c.self.inside.gossip ≡ true = sym c.exceeds.ensures ∙ c.if-not-exceeds.false in (
+      fact.Time c.in-Some.time.stamp,
+      refl,
+      StandsAt-told c.self.inside.wired.trail.client c.self.inside.wired.trail.point c.args.moment c.in-Some.time.stamp w.1.at (ap (λ (s : ClientState). s.is_ending) h.state)
+          (reply (λ (e : c.args.time ≡ None). absurd (cc)))
+          (subst (λ o. Exceeds c.in-Some.time.stamp o) (sym h.greatest) (Exceeds-kept c.self.inside.gossip c.in-Some.time.stamp news)),
+    )
+
+pub invariant_of-self : goal.invariant_of-self
+invariant_of-self g c =
+    let w = rw (← c.self.view_is) at c.requires.writing in
+    let news : exceeds c.in-Some.time.stamp c.self.inside.gossip ≡ true = sym c.exceeds.ensures ∙ c.if-not-exceeds.false in
+    let adds = c.append.ensures.adds (fact.Time c.in-Some.time.stamp) refl in
+    let space = w.1.space in
+    let used = adds.room_used.steps in
+    IsKept-told c.self.inside.wired.trail c.append.new.self.trail c.self.inside.wired.lines c.append.new.self.lines c.self.inside.topology.topology c.self.inside.servers.items
+    c.self.inside.gossip c.advance.new.self c.in-Some.time c.self.inside.standing c.self.inside.last c.args.moment c.self.inside.stopped (entry_of.Time c.in-Some.time.stamp) adds news
+    c.advance.ensures.greater (ap (λ s. s.lines) c.append.ensures.same) w.1.now (omega arith) c.self.invariant
+
+pub returns-clause-writing : goal.returns-clause-writing
+returns-clause-writing g c = λ debts h.
+    let w = rw (← c.self.view_is) at h in
+    let adds = c.append.ensures.adds (fact.Time c.in-Some.time.stamp) refl in
+    let space = w.space in
+    let used = adds.room_used.steps in
+    record {
+      runs = w.runs;
+      owes = ap (λ (p : Point). p.owed) adds.point_now ∙ w.owes;
+      at = ap (λ (p : Point). p.moment) adds.point_now;
+      now = w.now;
+      space = omega arith;
+    }
+
+pub returns-clause-servers : goal.returns-clause-servers
+returns-clause-servers g c = rw (← c.self.view_is) (ap (λ (p : Point). p.state) (c.append.ensures.adds (fact.Time c.in-Some.time.stamp) refl).point_now)
+
+pub returns-clause-names : goal.returns-clause-names
+returns-clause-names g c = rw (← c.self.view_is) (ap (λ (l : Lists). l.names) (c.append.ensures.adds (fact.Time c.in-Some.time.stamp) refl).lists_now)
+
+pub returns-clause-appends : goal.returns-clause-appends
+returns-clause-appends g c =
+    rw (← c.self.view_is)
+    (Appends-adds an_entry c.self.inside.wired.trail.lists c.args.moment (entry_of.Time c.in-Some.time.stamp) (fact.Time c.in-Some.time.stamp) c.self.inside.wired.trail
+    c.append.new.self.trail (AreLonger-refl c.self.inside.wired.trail.lists) (c.append.ensures.adds (fact.Time c.in-Some.time.stamp) refl) (λ e. absurd (cc)))

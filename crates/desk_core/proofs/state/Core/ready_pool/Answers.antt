@@ -1,0 +1,70 @@
+use Rattle.std.proofs.Common.{◌≡◌, ◌<◌, Some, length, refl, ap, ◌∙◌, arith}
+use Rattle.std.specs.Prelude.{slice_get}
+use Rattle.std.proofs.lemmas.Option.{slice_get_read, slice_get_within}
+use Rattle.pool_book.specs.Entries as pool
+use Rattle.desk_trail.specs.Facts as fact
+use Rattle.desk_trail.specs.Pools.{with_pool}
+use Rattle.desk_core.proofs.AppendsLemmas.{Appends-adds, AreLonger-refl}
+use Rattle.desk_core.proofs.PoolLemmas.{Changes-ready, IsKept-changed, IsKeptServer-ready, IsWriting-next, StandsAt-ready, number_of-changed, at-servers, paused-there}
+use Rattle.desk_core.proofs.state.Core.ready_pool.Goals as goal
+
+pub append-requires-clause-stands : goal.append-requires-clause-stands
+append-requires-clause-stands g c =
+    let w = rw (← c.self.view_is) at c.requires.writing in
+    let l = c.self.invariant.leads w.2.runs in
+    let p = paused-there _ (rw (← c.self.view_is) at c.requires.paused) in
+    let there : slice_get c.self.inside.servers.items c.args.host ≡ Some p.0 = at-servers _ _ _ _ _ _ c.args.host p.0 l p.1 in
+    (fact.PoolReady c.args.host, refl, StandsAt-ready _ _ _ _ w.0 p.0 w.2.owes w.2.at (ap (λ s. s.is_ending) l.state) p.1 (l.kept c.args.host p.0 there).paid p.2)
+
+pub index_mut-server-requires : goal.index_mut-server-requires
+index_mut-server-requires g c =
+    let w = rw (← c.self.view_is) at c.requires.writing in
+    let l = c.self.invariant.leads w.2.runs in
+    let p = paused-there _ (rw (← c.self.view_is) at c.requires.paused) in
+    let there : slice_get c.self.inside.servers.items c.args.host ≡ Some p.0 = at-servers _ _ _ _ _ _ c.args.host p.0 l p.1 in
+    omega (arith, slice_get_within c.self.inside.servers.items c.args.host p.0 there, c.self.inside.servers.ok.0)
+
+pub ready_pool-requires : goal.ready_pool-requires
+ready_pool-requires g c =
+    let w = rw (← c.self.view_is) at c.requires.writing in
+    let l = c.self.invariant.leads w.2.runs in
+    let p = paused-there _ (rw (← c.self.view_is) at c.requires.paused) in
+    let there : slice_get c.self.inside.servers.items c.args.host ≡ Some p.0 = at-servers _ _ _ _ _ _ c.args.host p.0 l p.1 in
+    let within = slice_get_within c.self.inside.servers.items c.args.host p.0 there in
+    let is = slice_get_read c.self.inside.servers.items _ c.args.host c.index_mut-server.result.now refl within c.index_mut-server.ensures.value in
+    let same : c.index_mut-server.result.now ≡ p.0 = cc in
+    rw same p.2
+
+pub invariant_of-self : goal.invariant_of-self
+invariant_of-self g c =
+    let w = rw (← c.self.view_is) at c.requires.writing in
+    let l = c.self.invariant.leads w.2.runs in
+    let p = paused-there _ (rw (← c.self.view_is) at c.requires.paused) in
+    let there : slice_get c.self.inside.servers.items c.args.host ≡ Some p.0 = at-servers _ _ _ _ _ _ c.args.host p.0 l p.1 in
+    let within = slice_get_within c.self.inside.servers.items c.args.host p.0 there in
+    let is = slice_get_read c.self.inside.servers.items _ c.args.host c.index_mut-server.result.now refl within c.index_mut-server.ensures.value in
+    let same : c.index_mut-server.result.now ≡ p.0 = cc in
+    let changed : c.ready_pool.new.self ≡ with_pool c.args.moment pool.Ready p.0 = c.ready_pool.ensures ∙ ap (with_pool c.args.moment pool.Ready) same in
+    IsKept-changed _ _ _ _ _ _ _ _ _ _ c.args.moment c.args.host w.1 _ _ _ p.0 _ c.self.invariant w.2.runs (ap (λ x. x.lines) c.append.ensures.same)
+    (c.append.ensures.adds (fact.PoolReady c.args.host) refl) (Changes-ready _ _ _) there changed w.2.now w.2.space
+    (IsKeptServer-ready _ _ c.args.moment _ _ (l.kept c.args.host p.0 there))
+
+pub returns-clause-writing : goal.returns-clause-writing
+returns-clause-writing g c = λ rest n before.
+    let w = rw (← c.self.view_is) at before in
+    IsWriting-next _ _ _ _ _ _ _ _ _ w (c.append.ensures.adds (fact.PoolReady c.args.host) refl) refl refl refl refl refl
+
+pub returns-clause-numbers : goal.returns-clause-numbers
+returns-clause-numbers g c = λ a.
+    let w = rw (← c.self.view_is) at c.requires.writing in
+    let l = c.self.invariant.leads w.2.runs in
+    let p = paused-there _ (rw (← c.self.view_is) at c.requires.paused) in
+    let there : slice_get c.self.inside.servers.items c.args.host ≡ Some p.0 = at-servers _ _ _ _ _ _ c.args.host p.0 l p.1 in
+    rw (← c.self.view_is)
+    (number_of-changed _ _ _ _ _ _ _ c.args.moment c.args.host _ _ _ p.0 a l (c.append.ensures.adds (fact.PoolReady c.args.host) refl) (Changes-ready _ _ _) there)
+
+pub returns-clause-names : goal.returns-clause-names
+returns-clause-names g c = rw (← c.self.view_is) (ap (λ x. x.names) (c.append.ensures.adds (fact.PoolReady c.args.host) refl).lists_now)
+
+pub returns-clause-appends : goal.returns-clause-appends
+returns-clause-appends g c = rw (← c.self.view_is) (Appends-adds _ _ _ _ _ _ _ (AreLonger-refl _) (c.append.ensures.adds (fact.PoolReady c.args.host) refl) (λ e. absurd (cc)))

@@ -1,0 +1,10 @@
+pub mod Servers
+pub mod State
+pub mod Kept
+pub mod Appends
+pub mod Follows
+pub mod Ends
+pub mod Due
+pub mod Driven
+pub mod Answered
+pub mod Ending

@@ -1,0 +1,47 @@
+-- The servers of a desk (own: what is kept of one that left).
+use Rattle.std.specs.Prelude.{◌≡◌, ◌<◌, ℕ, ◌+◌, Bool, true, false, List, [], ◌∷◌, Option, None, Some, slice_get, if◌then◌else◌}
+use Rattle.watch_step.specs.Checks.{Checks}
+use Rattle.host_name.specs.Addresses.{Address, is_same_address}
+use Rattle.pool_book.specs.Pool.{is_closed}
+use Rattle.wired_trail.specs.Lines.{Lines, line_at}
+use Rattle.wired_trail.specs.declared.lines.Line.{Line}
+use Rattle.wired_trail.specs.declared.stream_use.StreamUse.TheVariants as for_use
+use Rattle.desk_trail.specs.States.{ClientState, ServerState, number_of}
+
+-- The checks of a server that left: none runs any more.
+abbrev pub halted : Bool → Checks → Checks
+halted true c = record c { began = None }
+halted false c = c
+
+-- How many of the servers stand in the topology.
+abbrev pub standing : List ServerState → ℕ
+standing [] = 0
+standing (s ∷ ss) = if s.has_left then standing ss else standing ss + 1
+
+-- The stream of a server's checks is in use for them, and is there while a check runs; between two checks all that was queued on
+-- it is sent.
+abbrev pub HasStream : Lines → ℕ → Option ℕ → Option ℕ → Type 0
+HasStream lines x began None = began ≡ None
+HasStream lines x began (Some stream) =
+    (line : Line) × (line_at lines stream ≡ Some line) × (line.is_for ≡ for_use.Check x) × (began ≡ None → line.wire.unsent ≡ [])
+
+-- What is kept of each server, by its number: nothing must come next of its pool, in which no connection is available; its pool is
+-- open while it stands in the topology; its generation is less than the entries of the trail; and its checks have their stream.
+pub record IsKeptServer (lines : Lines) (entries x : ℕ) (s : ServerState) : Type 0 where
+  pub paid : s.pool.owed ≡ []
+  pub none : s.pool.state.available ≡ []
+  pub is_open : s.has_left ≡ false → is_closed s.pool.state.state ≡ false
+  pub generation : s.pool.state.generation < entries
+  pub checked : HasStream lines x s.checks.began s.check_stream
+
+abbrev pub AreKeptServers : Lines → ℕ → List ServerState → Type 0
+AreKeptServers lines entries servers = (x : ℕ) (s : ServerState) → slice_get servers x ≡ Some s → IsKeptServer lines entries x s
+
+-- An address has the number that it had, and what stands at that number is as it was.
+pub record IsUntouched (old new : ClientState) (address : Address) : Type 0 where
+  pub number : number_of new address ≡ number_of old address
+  pub server : (x : ℕ) → number_of old address ≡ Some x → slice_get new.servers x ≡ slice_get old.servers x
+
+-- So is every other address than that one.
+abbrev pub TouchesOnly : Address → ClientState → ClientState → Type 0
+TouchesOnly address old new = (a : Address) → is_same_address address a ≡ false → IsUntouched old new a

@@ -1,0 +1,24 @@
+-- What contracts see of a desk.
+use Rattle.std.specs.Prelude.{◌^◌, ℕ, Bool, max, min}
+use Rattle.legal_trail.specs.Recorded.{Recorded}
+use Rattle.wired_trail.specs.Lines.{Lines}
+
+-- A desk: its net, its trail and where that leads, the moment of its last step, and whether it stopped for want of memory.
+pub record Desk (N : Type 0) : Type 0 where
+  pub net : N
+  pub trail : Recorded
+  pub last : ℕ
+  pub is_stopped : Bool
+
+-- The moment of a step, by the one before and the one that was given: moments never fall, and are at most 2^62 (own).
+abbrev pub now_of : (last given : ℕ) → ℕ
+now_of last given = max last (min given (2 ^ 62))
+
+-- The same while a step is made, with the streams that are in use, and how many servers stand in the topology (own).
+pub record Core (N : Type 0) : Type 0 where
+  pub net : N
+  pub lines : Lines
+  pub trail : Recorded
+  pub standing : ℕ
+  pub last : ℕ
+  pub is_stopped : Bool

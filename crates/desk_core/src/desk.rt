@@ -1,0 +1,176 @@
+ghost use Rattle.std.specs.Prelude.{◌≡◌, ◌≤◌, ◌^◌, [], min, true, false, IfErr, IfOk, OnErr, OnOk};
+ghost use Rattle.net_link.specs.Causes.{Rose};
+ghost use Rattle.desk_trail.specs.Facts.{facts_of};
+ghost use Rattle.desk_trail.specs.Legal.{IsComplete, IsLegal, point_behind};
+ghost use Rattle.desk_trail.specs.Written.{lists_of};
+ghost use Rattle.legal_trail.specs.Recorded.{Recorded};
+ghost use Rattle.desk_core.specs.Appends.{Appends};
+ghost use Rattle.desk_core.specs.Due.{IsNext};
+ghost use Rattle.desk_core.specs.Ending.{ArePoolsShut};
+ghost use Rattle.desk_core.specs.State.{now_of};
+
+use crate::opening::{copies_of, seeds_of};
+use crate::state::Core;
+use crate::{Due, Finished, Memory, Returned, Sight};
+use bson_doc::Rows;
+use cmd_build::Command;
+use conn_uri::Settings;
+use desk_trail::{Request, Step};
+use host_name::Host;
+use net_link::Net;
+use std::alloc::Global;
+use std::marker::Model;
+use topo_rules::TopoEvent;
+use watch_step::LAST_MOMENT;
+use wired_trail::WiredTrail;
+
+/// A client's core. Each call is one step, which waits for nothing: it asks the net, and appends to the trail what came of it.
+///
+/// Unless it stopped for want of memory, its trail is legal and complete between any two calls; behind a stop it is legal up to
+/// there.
+#[derive(Drop)]
+pub struct Desk<N: Net> {
+    core: Core<N>,
+}
+
+impl<N: Net> Model for Desk<N> {
+    ghost use Rattle.std.specs.Prelude.{◌≡◌, false, []};
+    ghost use Rattle.desk_core.specs.State.{Desk as State};
+    ghost use Rattle.std.specs.Coded.{codes};
+    ghost use Rattle.bson_doc.specs.contracts.value.Value as values;
+    ghost use Rattle.topo_rules.specs.contracts.topology.Topology as topologies;
+
+    ghost Value = { State N };
+
+    ghost coded = { Prim.hlevel (codes, N.code, values.the_row.coded, topologies.the_row.coded) };
+
+    ghost view = { λ d. record { net = d.core.net; trail = d.core.trail; last = d.core.last; is_stopped = d.core.is_stopped } };
+
+    ghost invariant = { λ d. d.core.is_stopped ≡ false → d.core.trail.point.owed ≡ [] };
+}
+
+impl<N: Net> Desk<N> {
+    /// The desk of a client with these settings, which is to run these commands; it names its seeds (SDAM, Initial Servers). A
+    /// net that tells has told nothing yet. Where memory is wanting the net comes back as it was.
+    pub fn new(
+        alloc: Global,
+        net: N,
+        settings: Settings,
+        commands: Rows<Command>,
+        moment: u64,
+    ) -> Result<Desk<N>, Returned<N>>
+        requires fresh { N.tells → N.history net ≡ [] }
+        ensures client { IfOk result (λ d. d.trail.client ≡ record { settings = settings; commands = commands; began = min moment (2 ^ 62) }) }
+        ensures now { IfOk result (λ d. d.last ≡ min moment (2 ^ 62)) }
+        ensures runs { IfOk result (λ d. d.is_stopped ≡ false) }
+        ensures net { IfOk result (λ d. d.net ≡ net) }
+        ensures returned { IfErr result (λ r. r.net ≡ net) }
+    {
+        let now = moment.min(LAST_MOMENT);
+        let Ok(topology) = seeds_of(alloc, &settings) else {
+            return Err(Returned { net });
+        };
+        let Ok(seeds) = copies_of(alloc, settings.hosts.as_slice()) else {
+            return Err(Returned { net });
+        };
+        let wired = WiredTrail::new(alloc, settings, commands, now, net);
+        let mut core = Core::new(alloc, wired, topology, now);
+        match core.name_seeds(alloc, now, seeds.as_slice()) {
+            Ok(()) => Ok(Desk { core }),
+            Err(_) => Err(Returned {
+                net: core.into_net(),
+            }),
+        }
+    }
+
+    /// Whether it stopped for want of memory.
+    pub fn is_stopped(&self) -> bool
+        ensures { result ≡ self.now.is_stopped }
+    {
+        self.core.is_stopped()
+    }
+
+    /// All that it did so far, entry by entry: a legal trail, and a complete one unless the desk stopped.
+    pub fn steps(&self) -> &[Step]
+        ensures value { result.now ≡ self.now.trail.steps }
+        ensures legal { IsLegal self.now.trail.client self.now.trail.lists self.now.trail.steps }
+        ensures complete { self.now.is_stopped ≡ false → IsComplete self.now.trail.client self.now.trail.lists self.now.trail.steps }
+    {
+        self.core.wired.steps()
+    }
+
+    /// The names of the hosts, by their numbers.
+    pub fn names(&self) -> &[Host]
+        ensures value { result.now ≡ self.now.trail.lists.names }
+    {
+        self.core.wired.names()
+    }
+
+    /// The events that were offered to the topology, in order.
+    pub fn events(&self) -> &[TopoEvent]
+        ensures value { result.now ≡ self.now.trail.lists.events }
+    {
+        self.core.wired.events()
+    }
+
+    /// The requests that were queued, in order.
+    pub fn requests(&self) -> &[Request]
+        ensures value { result.now ≡ self.now.trail.lists.requests }
+    {
+        self.core.wired.requests()
+    }
+
+    /// Begins, drives or ends the check of one server (Server Monitoring). `moment` is in microseconds; what is appended to the
+    /// trail has the moment of the step, which is no earlier than the last one's. Of a number that no server of the topology has
+    /// the answer is `Answered`. After `Memory` the desk is stopped.
+    pub fn step_check(&mut self, alloc: Global, host: u32, moment: u64) -> Result<Sight, Memory>
+        requires runs { self.old.is_stopped ≡ false }
+        ensures now { self.new.last ≡ now_of self.old.last moment }
+        ensures appends { Appends (Rose (N.faults self.old.net) (N.faults self.new.net)) (now_of self.old.last moment) self.old.trail self.new.trail }
+        ensures ok { OnOk result (self.new.is_stopped ≡ false) }
+        ensures err { OnErr result (self.new.is_stopped ≡ true) }
+        ensures faults { N.faults self.old.net ≤ N.faults self.new.net }
+    {
+        let now = self.core.tick(moment);
+        let sight = self.core.check(alloc, now, host);
+        if sight.is_err() {
+            self.core.stop(now);
+        }
+        sight
+    }
+
+    /// The server whose check is due or running and earliest, of those the least number; None exactly where the topology has no
+    /// server. A check that runs counts as due at the moment of the last step.
+    pub fn next_due(&self) -> Option<Due>
+        requires runs { self.now.is_stopped ≡ false }
+        ensures next { IsNext self.now.trail.point.state self.now.last result }
+    {
+        self.core.next_due()
+    }
+
+    /// Ends it: its pools are closed, and then all streams. A desk that stopped appends nothing to its trail.
+    pub fn finish(self, moment: u64) -> Finished<N>
+        ensures legal { IsLegal self.trail.client (lists_of result.trail) result.trail.steps }
+        ensures complete { self.is_stopped ≡ false → IsComplete self.trail.client (lists_of result.trail) result.trail.steps }
+        ensures shut { self.is_stopped ≡ false
+            → ArePoolsShut (point_behind self.trail.client (facts_of (lists_of result.trail) result.trail.steps)).state }
+        ensures appends { (new : Recorded) × Appends ⊥ (now_of self.last moment) self.trail new
+            × (lists_of result.trail ≡ new.lists) × (result.trail.steps ≡ new.steps) }
+        ensures settings { result.settings ≡ self.trail.client.settings }
+        ensures commands { result.commands ≡ self.trail.client.commands }
+        ensures stopped { result.stopped ≡ self.is_stopped }
+        ensures faults { N.faults self.net ≤ N.faults result.net }
+    {
+        let Desk { mut core } = self;
+        let stopped = core.is_stopped();
+        let now = core.tick(moment);
+        let finished = core.finish(now);
+        Finished {
+            net: finished.net,
+            trail: finished.parts.trail,
+            settings: finished.parts.settings,
+            commands: finished.parts.commands,
+            stopped,
+        }
+    }
+}

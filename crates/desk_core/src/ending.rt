@@ -1,0 +1,87 @@
+ghost use Rattle.std.specs.Prelude.{◌≡◌, ◌≤◌, ◌<◌, ◌+◌, ◌^◌, ℕ, [], ◌∷◌, true, false, Some, length, slice_get};
+ghost use Rattle.pool_book.specs.Pool.{is_closed};
+ghost use Rattle.desk_trail.specs.Facts.{facts_of};
+ghost use Rattle.desk_trail.specs.Legal.{IsComplete, IsLegal, point_behind};
+ghost use Rattle.desk_trail.specs.States.{ServerState};
+ghost use Rattle.desk_trail.specs.Written.{lists_of};
+ghost use Rattle.legal_trail.specs.Recorded.{Recorded};
+ghost use Rattle.desk_core.specs.Appends.{Appends};
+ghost use Rattle.desk_core.specs.Ending.{ArePoolsShut};
+ghost use Rattle.desk_core.specs.Kept.{IsReady};
+ghost use Rattle.desk_core.specs.Servers.{standing};
+
+use crate::server::Server;
+use crate::state::Core;
+use desk_trail::Entry;
+use net_link::Net;
+use wired_trail::{Finished, WiredTrail};
+
+/// Closes the pool of a server, where that stands in the topology.
+fn shut_pool<N: Net>(wired: &mut WiredTrail<N>, server: &Server, host: u32, moment: u64)
+    requires there { slice_get wired.old.trail.point.state.servers host ≡ Some server.now }
+    requires idle { server.now.pool.owed ≡ [] }
+    requires none { server.now.pool.state.available ≡ [] }
+    requires is_open { server.now.has_left ≡ false → is_closed server.now.pool.state.state ≡ false }
+    requires room { standing (server.now ∷ []) ≤ wired.old.trail.room.steps }
+    requires paid { wired.old.trail.point.owed ≡ [] }
+    requires moment { wired.old.trail.point.moment ≤ moment }
+    ensures paid { wired.new.trail.point.owed ≡ [] }
+    ensures moment { wired.new.trail.point.moment ≤ moment }
+    ensures others { (x : ℕ) → (x ≡ host → ⊥) → slice_get wired.new.trail.point.state.servers x ≡ slice_get wired.old.trail.point.state.servers x }
+    ensures shut { (s : ServerState) → slice_get wired.new.trail.point.state.servers host ≡ Some s → s.has_left ≡ false
+        → is_closed s.pool.state.state ≡ true }
+    ensures room { wired.old.trail.room.steps ≡ wired.new.trail.room.steps + standing (server.now ∷ []) }
+    ensures net { wired.new.net ≡ wired.old.net }
+    ensures appends { Appends ⊥ moment wired.old.trail wired.new.trail }
+{
+    if !server.has_left() {
+        wired.append(moment, Entry::PoolShut { host });
+    }
+}
+
+/// Closes the pools of the servers that stand in the topology, in the order of their numbers.
+fn shut_pools<N: Net>(wired: &mut WiredTrail<N>, servers: &[Server], moment: u64)
+    requires servers { wired.old.trail.point.state.servers ≡ servers.now }
+    requires idle { (x : ℕ) (s : ServerState) → slice_get servers.now x ≡ Some s → (s.pool.owed ≡ []) × (s.pool.state.available ≡ []) }
+    requires is_open { (x : ℕ) (s : ServerState) → slice_get servers.now x ≡ Some s → s.has_left ≡ false → is_closed s.pool.state.state ≡ false }
+    requires few { length servers.now ≤ 2 ^ 32 }
+    requires room { standing servers.now ≤ wired.old.trail.room.steps }
+    requires paid { wired.old.trail.point.owed ≡ [] }
+    requires moment { wired.old.trail.point.moment ≤ moment }
+    ensures paid { wired.new.trail.point.owed ≡ [] }
+    ensures shut { ArePoolsShut wired.new.trail.point.state }
+    ensures net { wired.new.net ≡ wired.old.net }
+    ensures appends { Appends ⊥ moment wired.old.trail wired.new.trail }
+{
+    let mut place: usize = 0;
+    'shutting: while place < servers.len() {
+        shut_pool(wired, &servers[place], place as u32, moment);
+        place += 1;
+    }
+}
+
+impl<N: Net> Core<N> {
+    /// Closes the pools, and then all streams. A desk that stopped appends nothing to its trail.
+    pub fn finish(self, moment: u64) -> Finished<N>
+        requires ready { self.is_stopped ≡ false → IsReady self moment }
+        ensures legal { IsLegal self.trail.client (lists_of result.parts.trail) result.parts.trail.steps }
+        ensures complete { self.is_stopped ≡ false → IsComplete self.trail.client (lists_of result.parts.trail) result.parts.trail.steps }
+        ensures shut { self.is_stopped ≡ false
+            → ArePoolsShut (point_behind self.trail.client (facts_of (lists_of result.parts.trail) result.parts.trail.steps)).state }
+        ensures grown { (new : Recorded) × Appends ⊥ moment self.trail new × (lists_of result.parts.trail ≡ new.lists) × (result.parts.trail.steps ≡ new.steps) }
+        ensures settings { result.parts.settings ≡ self.trail.client.settings }
+        ensures commands { result.parts.commands ≡ self.trail.client.commands }
+        ensures faults { N.faults self.net ≤ N.faults result.net }
+    {
+        let Core {
+            mut wired,
+            servers,
+            stopped,
+            ..
+        } = self;
+        if !stopped {
+            shut_pools(&mut wired, &servers, moment);
+        }
+        wired.finish()
+    }
+}

@@ -1,0 +1,26 @@
+use bson_doc::Rows;
+use cmd_build::Command;
+use conn_uri::Settings;
+use desk_trail::Trail;
+
+/// What is left of a desk that ended.
+#[derive(Drop)]
+pub struct Finished<N> {
+    /// The net, in which all streams are closed.
+    pub net: N,
+    /// All that the desk did.
+    pub trail: Trail,
+    /// The settings that it was given.
+    pub settings: Settings,
+    /// The commands that it was given.
+    pub commands: Rows<Command>,
+    /// Whether it stopped for want of memory: then its trail may end where more had to follow.
+    pub stopped: bool,
+}
+
+/// What a desk was to talk over, where there was no memory to make one.
+#[derive(Drop)]
+pub struct Returned<N> {
+    /// The net as it was.
+    pub net: N,
+}

@@ -1,0 +1,88 @@
+ghost use Rattle.std.specs.Prelude.{◌≡◌, ◌≤◌, ◌+◌, ◌++◌, ◌∷◌, ℕ, List, Some, IfNone, IfSome, false, filter_map, length, map, option_to_list, slice_get};
+ghost use Rattle.std.specs.List.{IsDistinct, list_any};
+ghost use Rattle.host_name.specs.Addresses.{Address, is_same_address};
+ghost use Rattle.desk_trail.specs.Owed.{Owed};
+ghost use Rattle.desk_trail.specs.Owed as owed;
+ghost use Rattle.desk_trail.specs.States.{ServerState, Stays, number_of};
+ghost use Rattle.desk_core.specs.Appends.{Appends};
+ghost use Rattle.desk_core.specs.Kept.{IsWriting};
+ghost use Rattle.desk_core.specs.Servers.{IsUntouched, TouchesOnly};
+ghost use Rattle.wired_trail.specs.Lines.{IsThere, KeepsOthers};
+
+use crate::state::Core;
+use desk_trail::Entry;
+use host_name::Host;
+use net_link::Net;
+use wired_trail::WiredTrail;
+
+/// Closes a stream, where there is one.
+fn close_where<N: Net>(wired: &mut WiredTrail<N>, stream: Option<u64>)
+    requires { IfSome stream (λ s. IsThere wired.old.lines s) }
+    ensures trail { wired.new.trail ≡ wired.old.trail }
+    ensures others { IfSome stream (λ s. KeepsOthers s wired.old.lines wired.new.lines) }
+    ensures none { IfNone stream (wired.new.lines ≡ wired.old.lines) }
+    ensures faults { N.faults wired.old.net ≤ N.faults wired.new.net }
+{
+    if let Some(stream) = stream {
+        wired.close(stream);
+    }
+}
+
+impl<N: Net> Core<N> {
+    /// A server leaves the topology: a check of it that runs ends, and its pool is closed (SDAM, Updating the
+    /// TopologyDescription).
+    pub fn drop_server(&mut self, moment: u64, host: u32)
+        requires writing { (rest : List Owed) × (n : ℕ) × IsWriting self.old moment (n + 1) (owed.Dropped host ∷ rest) }
+        requires stays { Stays self.old.trail.point.state host }
+        ensures writing { (rest : List Owed) (n : ℕ) → IsWriting self.old moment (n + 1) (owed.Dropped host ∷ rest) → IsWriting self.new moment n rest }
+        ensures others { (s : ServerState) → slice_get self.old.trail.point.state.servers host ≡ Some s
+            → TouchesOnly s.address self.old.trail.point.state self.new.trail.point.state }
+        ensures names { self.new.trail.lists.names ≡ self.old.trail.lists.names }
+        ensures faults { N.faults self.old.net ≤ N.faults self.new.net }
+        ensures appends { Appends ⊥ moment self.old.trail self.new.trail }
+    {
+        self.wired.append(moment, Entry::Dropped { host });
+        self.wired.append(moment, Entry::PoolShut { host });
+        let server = &mut self.servers[host as usize];
+        close_where(&mut self.wired, server.check_stream());
+        server.leave();
+        server.shut_pool(moment);
+        self.standing -= 1;
+    }
+
+    /// The server of the host leaves the topology, where one stands there.
+    fn drop_at(&mut self, moment: u64, host: &Host)
+        requires writing { (rest : List Owed) × (n : ℕ)
+            × IsWriting self.old moment (n + 1) (map (λ x. owed.Dropped x) (option_to_list (number_of self.old.trail.point.state host.now)) ++ rest) }
+        ensures writing { (rest : List Owed) (n : ℕ)
+            → IsWriting self.old moment (n + 1) (map (λ x. owed.Dropped x) (option_to_list (number_of self.old.trail.point.state host.now)) ++ rest)
+            → IsWriting self.new moment n rest }
+        ensures others { TouchesOnly host.now self.old.trail.point.state self.new.trail.point.state }
+        ensures names { self.new.trail.lists.names ≡ self.old.trail.lists.names }
+        ensures faults { N.faults self.old.net ≤ N.faults self.new.net }
+        ensures appends { Appends ⊥ moment self.old.trail self.new.trail }
+    {
+        if let Some(number) = self.number_of(host) {
+            self.drop_server(moment, number);
+        }
+    }
+
+    /// The servers of these hosts leave the topology, in this order.
+    pub fn drop_all(&mut self, moment: u64, hosts: &[Host])
+        requires writing { (rest : List Owed) × (n : ℕ)
+            × IsWriting self.old moment (n + length hosts.now) (map (λ x. owed.Dropped x) (filter_map (number_of self.old.trail.point.state) hosts.now) ++ rest) }
+        requires differ { IsDistinct is_same_address hosts.now }
+        ensures writing { (rest : List Owed) (n : ℕ)
+            → IsWriting self.old moment (n + length hosts.now) (map (λ x. owed.Dropped x) (filter_map (number_of self.old.trail.point.state) hosts.now) ++ rest)
+            → IsWriting self.new moment n rest }
+        ensures others { (a : Address) → list_any (λ h. is_same_address h a) hosts.now ≡ false
+            → IsUntouched self.old.trail.point.state self.new.trail.point.state a }
+        ensures names { self.new.trail.lists.names ≡ self.old.trail.lists.names }
+        ensures faults { N.faults self.old.net ≤ N.faults self.new.net }
+        ensures appends { Appends ⊥ moment self.old.trail self.new.trail }
+    {
+        for host in hosts {
+            self.drop_at(moment, host);
+        }
+    }
+}

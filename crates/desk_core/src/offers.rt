@@ -1,0 +1,134 @@
+ghost use Rattle.std.specs.Prelude.{◌≡◌, ◌≤◌, ◌+◌, ◌*◌, ◌^◌, ◌++◌, ◌∷◌, ℕ, List, None, IfSome, OnOk, length, map};
+ghost use Rattle.host_name.specs.Addresses.{Address};
+ghost use Rattle.topo_book.specs.Offers.{IfAccepted, verdict_of};
+ghost use Rattle.topo_rules.specs.declared.event.TopoEvent.{TopoEvent};
+ghost use Rattle.topo_rules.specs.Changes.{IsChange};
+ghost use Rattle.topo_rules.specs.Laws.{listed_by};
+ghost use Rattle.topo_rules.specs.Rules as rules;
+ghost use Rattle.desk_trail.specs.Owed.{Owed};
+ghost use Rattle.desk_trail.specs.Owed as owed;
+ghost use Rattle.desk_trail.specs.States.{ClientState};
+ghost use Rattle.desk_trail.specs.Topologies.{Says, asks_of};
+ghost use Rattle.desk_core.specs.Answered.{added_by, removed_by};
+ghost use Rattle.desk_core.specs.Appends.{Appends};
+ghost use Rattle.desk_core.specs.Follows.{AreApart, IsNone, IsToOffer, entries_for, owed_by};
+ghost use Rattle.desk_core.specs.Kept.{IsWriting};
+ghost use Rattle.desk_core.specs.Servers.{IsUntouched};
+
+use crate::Memory;
+use crate::state::Core;
+use desk_trail::{OfferedHow, Room};
+use host_name::Host;
+use net_link::Net;
+use std::alloc::{AllocError, Global};
+use topo_book::Taken;
+use topo_rules::{Change, TopoEvent};
+
+/// Room for an event that was offered and for all that must follow it, beside the closings of so many pools. None where that
+/// is more than there can be.
+fn room_for(standing: usize, taken: &Taken) -> Option<Room>
+    ensures names { IfSome result (λ room. room.names ≡ length (added_by taken.now)) }
+    ensures events { IfSome result (λ room. room.events ≡ 1) }
+    ensures steps { IfSome result (λ room. room.steps ≡ standing + (3 + length (removed_by taken.now) + 2 * length (added_by taken.now))) }
+{
+    let (added, removed) = match taken {
+        Taken::Accepted(change) => (change.added.len(), change.removed.len()),
+        _ => (0, 0),
+    };
+    let named = added.checked_mul(2)?;
+    let moved = removed.checked_add(named)?.checked_add(3)?;
+    Some(Room {
+        names: added,
+        events: 1,
+        sessions: 0,
+        requests: 0,
+        steps: standing.checked_add(moved)?,
+    })
+}
+
+/// What the trail says of an event.
+fn said_of(taken: &Taken) -> OfferedHow
+    ensures says { (w : ClientState) (event : TopoEvent) → IfAccepted taken.now (IsChange w.topology event (rules.after w.topology event))
+        → Says w event (verdict_of taken.now) result }
+{
+    match taken {
+        Taken::Accepted(change) => OfferedHow::Accepted {
+            differs: change.differs,
+        },
+        Taken::Gone => OfferedHow::Gone,
+        Taken::StaleVersion { .. } => OfferedHow::StaleVersion,
+        Taken::StaleGeneration { .. } => OfferedHow::StaleGeneration,
+    }
+}
+
+impl<N: Net> Core<N> {
+    /// Names the hosts, in this order.
+    pub fn name_all(&mut self, alloc: Global, moment: u64, hosts: &[Host]) -> Result<(), Memory>
+        requires writing { (rest : List Owed) × (n : ℕ)
+            × IsWriting self.old moment (n + 2 * length hosts.now) (map (λ h. owed.Named h) hosts.now ++ rest) }
+        requires count { length self.old.trail.lists.names + length hosts.now ≤ 2 ^ 32 }
+        ensures ok { (rest : List Owed) (n : ℕ)
+            → IsWriting self.old moment (n + 2 * length hosts.now) (map (λ h. owed.Named h) hosts.now ++ rest)
+            → OnOk result (IsWriting self.new moment n rest) }
+        ensures others { OnOk result ((a : Address) → IsNone a hosts.now → IsUntouched self.old.trail.point.state self.new.trail.point.state a) }
+        ensures names { OnOk result (self.new.trail.lists.names ≡ self.old.trail.lists.names ++ hosts.now) }
+        ensures net { self.new.net ≡ self.old.net }
+        ensures lines { self.new.lines ≡ self.old.lines }
+        ensures appends { Appends ⊥ moment self.old.trail self.new.trail }
+    {
+        for host in hosts {
+            self.name(alloc, moment, host)?;
+        }
+        Ok(())
+    }
+
+    /// Writes all that must follow a change of the topology: hosts that were added are named, hosts that were removed leave,
+    /// and then a pool is made ready or cleared (SDAM, Updating the TopologyDescription; CMAP).
+    pub fn follow(&mut self, alloc: Global, moment: u64, change: &Change) -> Result<(), Memory>
+        requires writing { (rest : List Owed) × (n : ℕ)
+            × IsWriting self.old moment (n + entries_for change.now) (owed_by self.old.trail.point.state change.now ++ rest) }
+        requires apart { AreApart change.now }
+        requires count { length self.old.trail.lists.names + length change.now.added ≤ 2 ^ 32 }
+        ensures ok { (rest : List Owed) (n : ℕ)
+            → IsWriting self.old moment (n + entries_for change.now) (owed_by self.old.trail.point.state change.now ++ rest)
+            → OnOk result (IsWriting self.new moment n rest) }
+        ensures names { OnOk result (self.new.trail.lists.names ≡ self.old.trail.lists.names ++ change.now.added) }
+        ensures faults { N.faults self.old.net ≤ N.faults self.new.net }
+        ensures appends { Appends ⊥ moment self.old.trail self.new.trail }
+    {
+        self.name_all(alloc, moment, change.added.as_slice())?;
+        self.drop_all(moment, change.removed.as_slice());
+        self.ready_some(moment, &change.ready);
+        self.clear_some(moment, &change.clear);
+        Ok(())
+    }
+
+    /// Offers an event, which must come next, to the topology, and writes all that must follow it.
+    pub fn offer(&mut self, alloc: Global, moment: u64, event: TopoEvent) -> Result<(), Memory>
+        requires writing { (first : Owed) × (rest : List Owed) × IsWriting self.old moment 0 (first ∷ rest) × IsToOffer first event }
+        requires of_check { asks_of event ≡ None }
+        requires count { length self.old.trail.lists.names + length (listed_by event) ≤ 2 ^ 32 }
+        ensures ok { (first : Owed) (rest : List Owed) → IsWriting self.old moment 0 (first ∷ rest) → OnOk result (IsWriting self.new moment 0 rest) }
+        ensures names { OnOk result (length self.new.trail.lists.names ≤ length self.old.trail.lists.names + length (listed_by event)) }
+        ensures faults { N.faults self.old.net ≤ N.faults self.new.net }
+        ensures appends { Appends ⊥ moment self.old.trail self.new.trail }
+    {
+        let generation = self.generation_of(event.host());
+        let copy = event.copy(alloc)?;
+        let taken = self.topology.offer(alloc, copy, generation)?;
+        let Some(room) = room_for(self.standing, &taken) else {
+            self.stopped = true;
+            return Err(AllocError);
+        };
+        if let Err(memory) = self.wired.reserve(room) {
+            self.stopped = true;
+            return Err(memory);
+        }
+        topo_rules::laws::moves_are_bounded();
+        self.wired.offer(moment, event, said_of(&taken));
+        match taken {
+            Taken::Accepted(change) => self.follow(alloc, moment, &change),
+            _ => Ok(()),
+        }
+    }
+}

@@ -1,0 +1,56 @@
+ghost use Rattle.std.specs.Prelude.{◌≡◌, false};
+ghost use Rattle.desk_trail.specs.States.{number_of};
+
+use crate::naming::number_from;
+use crate::server::Server;
+use host_name::Host;
+use net_link::Net;
+use std::marker::Model;
+use time_gossip::TimeGossip;
+use topo_book::TopoBook;
+use wired_trail::WiredTrail;
+
+/// All that a desk has, between any two entries of its trail.
+#[derive(Drop)]
+pub struct Core<N: Net> {
+    pub wired: WiredTrail<N>,
+    pub topology: TopoBook,
+    pub servers: Vec<Server>,
+    pub gossip: TimeGossip,
+    pub standing: usize,
+    pub last: u64,
+    pub stopped: bool,
+}
+
+impl<N: Net> Model for Core<N> {
+    ghost use Rattle.desk_core.specs.State.{Core as State};
+    ghost use Rattle.desk_core.specs.Kept.{IsKept};
+    ghost use Rattle.std.specs.Coded.{codes};
+    ghost use Rattle.bson_doc.specs.contracts.value.Value as values;
+    ghost use Rattle.topo_rules.specs.contracts.topology.Topology as topologies;
+
+    ghost Value = { State N };
+
+    ghost coded = { Prim.hlevel (codes, N.code, values.the_row.coded, topologies.the_row.coded) };
+
+    ghost view = { λ d. record {
+      net = d.wired.net;
+      lines = d.wired.lines;
+      trail = d.wired.trail;
+      standing = d.standing;
+      last = d.last;
+      is_stopped = d.stopped;
+    } };
+
+    ghost invariant = { λ d. IsKept d.wired.trail d.wired.lines d.topology.topology d.servers.items d.gossip d.standing d.last d.stopped };
+}
+
+impl<N: Net> Core<N> {
+    /// The number of the server that stands in the topology with that address.
+    pub fn number_of(&self, host: &Host) -> Option<u32>
+        requires { self.now.is_stopped ≡ false }
+        ensures { result ≡ number_of self.now.trail.point.state host.now }
+    {
+        number_from(&self.servers, host)
+    }
+}

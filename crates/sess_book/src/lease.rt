@@ -19,6 +19,13 @@ impl Lease {
         self.lsid
     }
 
+    /// The session's place among all that the book made, in the order in which it made them.
+    pub fn place(&self) -> usize
+        ensures { result ≡ self.now.place }
+    {
+        self.place
+    }
+
     /// Whether the session was made for this lease.
     pub fn fresh(&self) -> bool
         ensures { result ≡ self.now.fresh }

@@ -118,6 +118,19 @@ impl Servers {
         }
     }
 
+    /// What is known of the server at a host, shared with these.
+    pub fn share(&self, host: &Host) -> Result<Option<Shared>, Memory>
+        ensures { IfOk result (λ found. option_map (λ s. arc_value s) found ≡ map.get self.now host.now) }
+    {
+        match self.find(host) {
+            Some(shared) => {
+                let shared = Arc::try_clone(shared)?;
+                Ok(Some(shared))
+            }
+            None => Ok(None),
+        }
+    }
+
     /// What is known of a host, to be shared; a default Unknown where it is not there.
     pub fn known(&self, alloc: Global, host: &Host) -> Result<Shared, Memory>
         ensures { IfOk result (λ shared. arc_value shared ≡ known_or_new self.now host.now) }

@@ -1,4 +1,5 @@
 ghost use Rattle.std.specs.Prelude.{◌≡◌, ◌≤◌, length, true, IfOk, OnOk, OnErr, IfSome, IsSome, IsTrue, option_copied, slice_get, ◌↔◌};
+ghost use Rattle.std.specs.Arc.{arc_value};
 ghost use Rattle.std.specs.Option.{option_map};
 ghost use Rattle.topo_rules.specs.Laws.{MayStart};
 ghost use Rattle.topo_rules.specs.Maps.{StandAtHosts, StandInOrder};
@@ -22,6 +23,7 @@ use hello_reply::{ServerDescription, default_unknown};
 use host_name::Host;
 use rtt_mean::next;
 use std::alloc::Global;
+use std::sync::Arc;
 
 /// The most seeds that a topology may start with.
 const MOST_SEEDS: usize = 16_777_216;
@@ -120,6 +122,14 @@ impl Topology {
         ensures host { IfSome result (λ d. d.now.host ≡ host.now) }
     {
         self.servers.get(host)
+    }
+
+    /// What is known of the server at a host, shared with the topology, so that it is not copied; none where it is not in the
+    /// topology. What the caller has stays as it is, whatever becomes of the topology.
+    pub fn share(&self, host: &Host) -> Result<Option<Arc<ServerDescription, Global>>, Memory>
+        ensures value { IfOk result (λ found. option_map (λ s. arc_value s) found ≡ map.get self.now.servers host.now) }
+    {
+        self.servers.share(host)
     }
 
     /// How many servers there are. What stands at a host is that host's description, and hosts stand in their order, each

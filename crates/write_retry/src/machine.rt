@@ -60,6 +60,13 @@ impl OpMachine {
         self.next
     }
 
+    /// Whether the command drew a transaction number, which each of its attempts carries (Retryable Writes, txnNumber).
+    pub fn drew(&self) -> bool
+        ensures drew { result ≡ self.now.drew }
+    {
+        self.drew
+    }
+
     /// Whether the event answers what is to be done next.
     pub fn allows(&self, event: &OpEvent) -> bool
         ensures allowed { result ≡ allows_event self.now.next event.now }

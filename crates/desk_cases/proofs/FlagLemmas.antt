@@ -1,0 +1,7 @@
+-- Flags that are all clear are known.
+use Rattle.std.proofs.Common.{◌≡◌, None, refl}
+use Rattle.msg_wire.specs.Flags.{refused_bit}
+
+pub refused_bit-0 : refused_bit 0 ≡ None
+unfolding refused_bit
+refused_bit-0 = refl

@@ -1,0 +1,38 @@
+//! The program `desk_cases`: case files of `desk_core`, a client that discovers and checks servers over a net in memory.
+//!
+//! `desk_cases FILE..` runs the files as `case_files` says. Its steps are those of [`steps`], and their facts those of
+//! [`facts`]. A step's entries are named one by one: a step behind one of which an entry was not named is a complaint, and so
+//! is the end of such a file.
+#![tactic(auto)]
+
+mod calls;
+mod entries;
+mod facts;
+mod kinds;
+mod log;
+mod messages;
+mod net;
+mod peers;
+mod state;
+mod steps;
+mod stream;
+mod telling;
+mod topologies;
+
+use case_files::run_files;
+use peers::Peers;
+use state::State;
+use std::cell::RefCell;
+use std::io;
+use std::process::ExitCode;
+
+fn main(rt: HostRuntime) -> io::Result<ExitCode> {
+    let peers = RefCell::new(Peers::new(rt.alloc()));
+    let mut state = State::opened(&peers, rt.alloc());
+    let status = run_files(&rt, &mut state)?;
+    if state.has_untold() {
+        println!(rt; "the last file ends with entries that no line names")?;
+        return Ok(ExitCode::from(1));
+    }
+    Ok(status)
+}

@@ -1,0 +1,75 @@
+//! The steps, each by its first word. Moments are microseconds.
+//!
+//! Of the client:
+//!
+//! - `client URI [at=MOMENT]` makes it, at moment 0 where none is told; the peers forget what they were told;
+//! - `check HOST at=MOMENT` steps the check of a host, `NAME` for the last one of that name or `NAME/NUMBER`;
+//! - `due` asks which check comes next, and `finish at=MOMENT` ends the client.
+//!
+//! The others are those of [`told_step`](crate::telling::told_step), which tell peers what they do.
+use crate::calls::{Client, made};
+use crate::state::{State, Told};
+use crate::telling::told_step;
+use case_files::{CaseFault, Words, parsed};
+use std::alloc::Global;
+use std::mem;
+
+/// Takes the step of these words.
+pub fn step_of(
+    alloc: Global,
+    state: &mut State<'_>,
+    words: &mut Words<'_>,
+) -> Result<Told, CaseFault> {
+    let verb = words.next_as("step")?;
+    match verb {
+        "client" => client(alloc, state, words),
+        "check" => {
+            let host = words.next_as("host")?;
+            let moment = moment(alloc, words)?;
+            words.end(alloc)?;
+            state.client.check(alloc, host, moment)
+        }
+        "due" => {
+            let _there = state
+                .client
+                .log()
+                .ok_or(CaseFault::Refused("no client is there"))?;
+            Ok(Told::Client)
+        }
+        "finish" => {
+            let moment = moment(alloc, words)?;
+            words.end(alloc)?;
+            finish(state, moment)
+        }
+        _ => told_step(alloc, state, verb, words),
+    }
+}
+
+fn moment(alloc: Global, words: &mut Words<'_>) -> Result<u64, CaseFault> {
+    parsed(alloc, words.must_value("at")?)
+}
+
+/// Makes the client.
+fn client(alloc: Global, state: &mut State<'_>, words: &mut Words<'_>) -> Result<Told, CaseFault> {
+    let text = words.next_as("connection string")?;
+    let moment = words.number(alloc, "at")?.unwrap_or(0);
+    words.end(alloc)?;
+    state.client = made(alloc, state.peers, text, moment)?;
+    state.next.set(0);
+    Ok(Told::Client)
+}
+
+/// Ends the client.
+fn finish(state: &mut State<'_>, moment: u64) -> Result<Told, CaseFault> {
+    let client = mem::replace(&mut state.client, Client::None);
+    match client {
+        Client::Made(_, _) => {
+            state.client = client.finished(moment);
+            Ok(Told::Client)
+        }
+        _ => {
+            state.client = client;
+            Err(CaseFault::Refused("no client is there that did not end"))
+        }
+    }
+}

@@ -165,6 +165,7 @@ LeadsTo-begun old between new before lines topology ss time last moment k stream
       is_open = kept.is_open;
       generation = let g = kept.generation in omega arith;
       checked = (now, now_there, now_is_for, λ (e : Some moment ≡ None). absurd (cc));
+      paced = kept.paced;
     }))
     h
 
@@ -176,16 +177,17 @@ pub record IsRested (h : CheckHow) (s t : ServerState) : Type 0 where
   pub left : t.has_left ≡ s.has_left
   pub pool : t.pool ≡ s.pool
   pub began : t.checks.began ≡ None
+  pub beat : t.checks.beat ≡ s.checks.beat
   pub stream : (h ≡ how.NoDial → s.check_stream ≡ None) → t.check_stream ≡ kept_stream h s.check_stream
 
 pub IsRested-ended : (moment : ℕ) (h : CheckHow) (known : Bool) (s : ServerState) → IsRested h s (check_ends moment h known s)
-IsRested-ended moment (how.Reply sample) known s = record { address = refl; left = refl; pool = refl; began = refl; stream = λ n. refl }
-IsRested-ended moment (how.Refused code) known s = record { address = refl; left = refl; pool = refl; began = refl; stream = λ n. refl }
-IsRested-ended moment how.Cut known s = record { address = refl; left = refl; pool = refl; began = refl; stream = λ n. refl }
-IsRested-ended moment how.Fault known s = record { address = refl; left = refl; pool = refl; began = refl; stream = λ n. refl }
-IsRested-ended moment how.Late known s = record { address = refl; left = refl; pool = refl; began = refl; stream = λ n. refl }
-IsRested-ended moment (how.Bad at) known s = record { address = refl; left = refl; pool = refl; began = refl; stream = λ n. refl }
-IsRested-ended moment how.NoDial known s = record { address = refl; left = refl; pool = refl; began = refl; stream = λ n. n refl }
+IsRested-ended moment (how.Reply sample) known s = record { address = refl; left = refl; pool = refl; began = refl; beat = refl; stream = λ n. refl }
+IsRested-ended moment (how.Refused code) known s = record { address = refl; left = refl; pool = refl; began = refl; beat = refl; stream = λ n. refl }
+IsRested-ended moment how.Cut known s = record { address = refl; left = refl; pool = refl; began = refl; beat = refl; stream = λ n. refl }
+IsRested-ended moment how.Fault known s = record { address = refl; left = refl; pool = refl; began = refl; beat = refl; stream = λ n. refl }
+IsRested-ended moment how.Late known s = record { address = refl; left = refl; pool = refl; began = refl; beat = refl; stream = λ n. refl }
+IsRested-ended moment (how.Bad at) known s = record { address = refl; left = refl; pool = refl; began = refl; beat = refl; stream = λ n. refl }
+IsRested-ended moment how.NoDial known s = record { address = refl; left = refl; pool = refl; began = refl; beat = refl; stream = λ n. n refl }
 
 -- the server has its stream behind it: none, or one on which all is sent
 pub data EndsOn (lines : Lines) (k : ℕ) (h : CheckHow) (o : Option ℕ) : Type 0 where
@@ -215,9 +217,10 @@ IsKeptServer-ended old lines m n k moment h known s more none on kept =
       checked =
           subst (λ b. HasStream lines k b t.check_stream) (sym is.began)
           (subst (λ o. HasStream lines k None o) (sym (is.stream none)) (HasStream-ended lines k h s.check_stream on));
+      paced = subst (λ n. 0 < n) (sym is.beat) kept.paced;
     }
 
-Changes-ended : (old new : Recorded) (moment k : ℕ) (h : CheckHow) (s : ServerState) (e : Entry) → Adds an_entry old.lists moment e (fact.CheckEnded k h) old new →
+pub Changes-ended : (old new : Recorded) (moment k : ℕ) (h : CheckHow) (s : ServerState) (e : Entry) → Adds an_entry old.lists moment e (fact.CheckEnded k h) old new →
     slice_get old.point.state.servers k ≡ Some s → Changes old new k (check_ends moment h (stands_known old.point.state.topology s.address) s)
     × (new.point.state.requests ≡ old.point.state.requests)
 Changes-ended old new moment k h s e adds there =
@@ -296,6 +299,7 @@ LeadsTo-dialled trail old new topology ss time last stream free others h = recor
         is_open = k.is_open;
         generation = k.generation;
         checked = HasStream-dialled old new stream x s.checks.began s.check_stream free others k.checked;
+        paced = k.paced;
       };
 }
 

@@ -133,6 +133,7 @@ AreKept-still trail before lines ss n host stream began d others still kept =
       generation = k.generation;
       checked =
           HasStream-still before lines host stream began d.server.checks.began d.server.check_stream d.line d.has d.runs.since d.line_there d.is_for still;
+      paced = k.paced;
     }))
 
 pub IsKept-still : (old new : Recorded) (before lines : Lines) (topology : Topology) (ss : List ServerState) (time : Option ClusterTime) (count last host stream began : ℕ)

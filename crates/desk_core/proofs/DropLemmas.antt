@@ -58,6 +58,7 @@ IsKeptServer-dropped lines before m n x moment s more k =
       is_open = λ stays. absurd (cc);
       generation = omega arith;
       checked = refl;
+      paced = k.paced;
     }
 
 there-checked : (lines : Lines) (x : ℕ) (began o : Option ℕ) → HasStream lines x began o → IfSome o (λ s. IsThere lines s)

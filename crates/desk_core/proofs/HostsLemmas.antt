@@ -12,9 +12,11 @@ use Rattle.desk_trail.specs.States.{ClientState, number_of}
 use Rattle.desk_core.specs.Appends.{Appends}
 use Rattle.desk_core.specs.Follows.{IsNone}
 use Rattle.desk_core.specs.Kept.{IsWriting}
+use Rattle.desk_core.specs.Rests.{KeepsChecks}
 use Rattle.desk_core.specs.Servers.{IsUntouched, TouchesOnly}
 use Rattle.desk_core.specs.State.{Core}
 use Rattle.desk_core.proofs.AppendsLemmas.{Appends-refl, Appends-trans}
+use Rattle.desk_core.proofs.RestLemmas.{KeepsChecks-refl, KeepsChecks-trans}
 use Rattle.desk_core.proofs.ServerLemmas.{IsUntouched-refl, IsUntouched-trans}
 
 -- ---- Lists
@@ -67,6 +69,7 @@ pub record AreNamed {N : Type 0} (moment : ℕ) (old new : Core N) (hosts : List
   pub writes : (rest : List Owed) (n : ℕ) → IsWriting old moment (n + 2 * length hosts) (map (λ h. owed.Named h) hosts ++ rest) →
       IsWriting new moment (n + 2 * length (drop k hosts)) (map (λ h. owed.Named h) (drop k hosts) ++ rest)
   pub others : (a : Address) → IsNone a (take k hosts) → IsUntouched old.trail.point.state new.trail.point.state a
+  pub checks : KeepsChecks old.trail.point.state new.trail.point.state
   pub names : new.trail.lists.names ≡ old.trail.lists.names ++ take k hosts
   pub appends : Appends ⊥ moment old.trail new.trail
 
@@ -74,6 +77,7 @@ pub AreNamed-start : {N : Type 0} (moment : ℕ) (d : Core N) (hosts : List Addr
 AreNamed-start {N} moment d hosts = record {
   writes = λ rest n w. w;
   others = λ a h. IsUntouched-refl d.trail.point.state d.trail.point.state a refl;
+  checks = KeepsChecks-refl d.trail.point.state;
   names = sym (append-nil d.trail.lists.names);
   appends = Appends-refl moment d.trail;
 }
@@ -89,15 +93,16 @@ AreNamed-writes {N} moment old new hosts k x rest n named below read w =
 
 pub AreNamed-next : {N : Type 0} (moment : ℕ) (old new now : Core N) (hosts : List Address) (k : ℕ) (x : Address) → AreNamed moment old new hosts k → k < length hosts →
     x ≡ get_or hosts k x → ((rest : List Owed) (n : ℕ) → IsWriting new moment (n + 2) (owed.Named x ∷ rest) → IsWriting now moment n rest) →
-    TouchesOnly x new.trail.point.state now.trail.point.state → now.trail.lists.names ≡ new.trail.lists.names ++ x ∷ [] → Appends ⊥ moment new.trail now.trail →
-    AreNamed moment old now hosts (k + 1)
-AreNamed-next {N} moment old new now hosts k x named below read writes others names appends = record {
+    TouchesOnly x new.trail.point.state now.trail.point.state → KeepsChecks new.trail.point.state now.trail.point.state →
+    now.trail.lists.names ≡ new.trail.lists.names ++ x ∷ [] → Appends ⊥ moment new.trail now.trail → AreNamed moment old now hosts (k + 1)
+AreNamed-next {N} moment old new now hosts k x named below read writes others checks names appends = record {
   writes = λ rest n w.
       writes (names_owed (drop (k + 1) hosts) ++ rest) (n + 2 * length (drop (k + 1) hosts))
       (AreNamed-writes moment old new hosts k x rest n named below read w);
   others = λ a h.
       let neither = none-next a x hosts k below read h in
       IsUntouched-trans old.trail.point.state new.trail.point.state now.trail.point.state a (named.others a neither.first) (others a neither.second);
+  checks = KeepsChecks-trans old.trail.point.state new.trail.point.state now.trail.point.state named.checks checks;
   names =
       names ∙ ap (λ l. l ++ x ∷ []) named.names ∙ append_assoc old.trail.lists.names (take k hosts) (x ∷ [])
       ∙ ap (λ l. old.trail.lists.names ++ l) (sym (take-next hosts k x below read));
@@ -155,6 +160,7 @@ pub record AreDropped {N : Type 0} (moment : ℕ) (old new : Core N) (hosts : Li
       IsWriting old moment (n + length hosts) (map (λ x. owed.Dropped x) (filter_map (number_of old.trail.point.state) hosts) ++ rest) →
       IsWriting new moment (n + length (drop k hosts)) (map (λ x. owed.Dropped x) (filter_map (number_of old.trail.point.state) (drop k hosts)) ++ rest)
   pub others : (a : Address) → IsNone a (take k hosts) → IsUntouched old.trail.point.state new.trail.point.state a
+  pub checks : KeepsChecks old.trail.point.state new.trail.point.state
   pub names : new.trail.lists.names ≡ old.trail.lists.names
   pub appends : Appends ⊥ moment old.trail new.trail
 
@@ -162,6 +168,7 @@ pub AreDropped-start : {N : Type 0} (moment : ℕ) (d : Core N) (hosts : List Ad
 AreDropped-start {N} moment d hosts = record {
   writes = λ rest n w. w;
   others = λ a h. IsUntouched-refl d.trail.point.state d.trail.point.state a refl;
+  checks = KeepsChecks-refl d.trail.point.state;
   names = refl;
   appends = Appends-refl moment d.trail;
 }
@@ -187,15 +194,16 @@ AreDropped-writes {N} moment old new hosts k x rest n differ dropped below read 
 pub AreDropped-next : {N : Type 0} (moment : ℕ) (old new now : Core N) (hosts : List Address) (k : ℕ) (x : Address) → IsDistinct is_same_address hosts →
     AreDropped moment old new hosts k → k < length hosts → x ≡ get_or hosts k x →
     ((rest : List Owed) (n : ℕ) → IsWriting new moment (n + 1) (map (λ y. owed.Dropped y) (option_to_list (number_of new.trail.point.state x)) ++ rest) → IsWriting now moment n rest) →
-    TouchesOnly x new.trail.point.state now.trail.point.state → now.trail.lists.names ≡ new.trail.lists.names → Appends ⊥ moment new.trail now.trail →
-    AreDropped moment old now hosts (k + 1)
-AreDropped-next {N} moment old new now hosts k x differ dropped below read writes others names appends = record {
+    TouchesOnly x new.trail.point.state now.trail.point.state → KeepsChecks new.trail.point.state now.trail.point.state →
+    now.trail.lists.names ≡ new.trail.lists.names → Appends ⊥ moment new.trail now.trail → AreDropped moment old now hosts (k + 1)
+AreDropped-next {N} moment old new now hosts k x differ dropped below read writes others checks names appends = record {
   writes = λ rest n w.
       writes (drops_owed old.trail.point.state (drop (k + 1) hosts) ++ rest) (n + length (drop (k + 1) hosts))
       (AreDropped-writes moment old new hosts k x rest n differ dropped below read w);
   others = λ a h.
       let neither = none-next a x hosts k below read h in
       IsUntouched-trans old.trail.point.state new.trail.point.state now.trail.point.state a (dropped.others a neither.first) (others a neither.second);
+  checks = KeepsChecks-trans old.trail.point.state new.trail.point.state now.trail.point.state dropped.checks checks;
   names = names ∙ dropped.names;
   appends = Appends-trans moment old.trail new.trail now.trail dropped.appends appends;
 }

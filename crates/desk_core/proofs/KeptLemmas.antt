@@ -103,9 +103,9 @@ Moves-named old new names moment x a e h = record {
 
 pub LeadsTo-named : (old new : Recorded) (lines : Lines) (topology : Topology) (ss : List ServerState) (time : Option ClusterTime) (last moment x : ℕ) (a : Address) (e : Entry) →
     Adds a_name (record old.lists { names = old.lists.names ++ a ∷ [] }) moment e (fact.Named x a) old new → length old.lists.names < 2 ^ 32 → last ≡ moment →
-    standing ss + 1 ≤ new.room.steps → LeadsTo old lines topology ss time last →
+    standing ss + 1 ≤ new.room.steps → 0 < (fresh_server old.client moment a).checks.beat → LeadsTo old lines topology ss time last →
     LeadsTo new lines topology (ss ++ fresh_server old.client moment a ∷ []) time last
-LeadsTo-named old new lines topology ss time last moment x a e adds few now room h =
+LeadsTo-named old new lines topology ss time last moment x a e adds few now room paced h =
     let s : ServerState = fresh_server old.client moment a in
     let address : ServerState → Address = λ t. t.address in
     let is = servers-of old lines topology ss time last h in
@@ -117,20 +117,21 @@ LeadsTo-named old new lines topology ss time last moment x a e adds few now room
     (ap (λ (l : Lists). l.names) adds.lists_now ∙ ap (λ l. l ++ a ∷ []) h.names ∙ sym (map-append address ss (s ∷ [])))
     (rw (length-append ss) (omega arith)) (rw (standing-append ss s refl) room)
     (AreKeptServers-append lines (length new.steps) ss s (AreKeptServers-more lines (length old.steps) (length new.steps) ss (omega arith) h.kept)
-    (record { paid = refl; none = refl; is_open = λ k. refl; generation = omega arith; checked = refl }))
+    (record { paid = refl; none = refl; is_open = λ k. refl; generation = omega arith; checked = refl; paced = paced }))
     h
 
 pub IsKept-named : (old new : Recorded) (before lines : Lines) (topology : Topology) (ss items : List ServerState) (time : Option ClusterTime) (count last moment x : ℕ)
     (stopped : Bool) (s : ServerState) (a : Address) (e : Entry) →
     Adds a_name (record old.lists { names = old.lists.names ++ a ∷ [] }) moment e (fact.Named x a) old new → length old.lists.names < 2 ^ 32 → last ≡ moment →
-    count + 1 ≤ new.room.steps → lines ≡ before → s ≡ fresh_server old.client moment a → items ≡ ss ++ s ∷ [] →
+    count + 1 ≤ new.room.steps → lines ≡ before → s ≡ fresh_server old.client moment a → 0 < s.checks.beat → items ≡ ss ++ s ∷ [] →
     IsKept old before topology ss time count last stopped → IsKept new lines topology items time (count + 1) last stopped
-IsKept-named old new before lines topology ss items time count last moment x stopped s a e adds few now room same fresh pushed k =
+IsKept-named old new before lines topology ss items time count last moment x stopped s a e adds few now room same fresh paced pushed k =
     let counted = k.counted in
     subst (λ (l : Lines). IsKept new l topology items time (count + 1) last stopped) (sym same)
     (subst (λ (zs : List ServerState). IsKept new before topology zs time (count + 1) last stopped) (sym (pushed ∙ ap (λ t. ss ++ t ∷ []) fresh))
     (record {
-      leads = λ runs. LeadsTo-named old new before topology ss time last moment x a e adds few now (omega arith) (k.leads runs);
+      leads = λ runs.
+          LeadsTo-named old new before topology ss time last moment x a e adds few now (omega arith) (subst (λ (t : ServerState). 0 < t.checks.beat) fresh paced) (k.leads runs);
       counted = ap (λ n. n + 1) counted ∙ sym (standing-append ss (fresh_server old.client moment a) refl);
       in_range = k.in_range;
     }))

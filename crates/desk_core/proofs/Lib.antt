@@ -12,3 +12,5 @@ mod OfferLemmas
 mod DropLemmas
 mod HostsLemmas
 mod DriveLemmas
+mod RestLemmas
+mod SightLemmas

@@ -55,7 +55,7 @@ StandsAt-offered client p moment place event how first rest o m going is next sa
 -- ---- The client behind it
 
 -- an event that asks for no check changes the topology alone
-offered-plain : (moment : ℕ) (event : TopoEvent) (w : ClientState) → asks_of event ≡ None →
+pub offered-plain : (moment : ℕ) (event : TopoEvent) (w : ClientState) → asks_of event ≡ None →
     offered_after moment event w ≡ record w { topology = topology_after w event; events = w.events + 1 }
 offered-plain moment event w h =
     ap (λ (o : Option Address). record (if is_accepted_verdict (verdict_on w event) then asked_at moment (option_and_then (number_of w) o) w else w) { topology = topology_after w event; events = w.events + 1 }) h

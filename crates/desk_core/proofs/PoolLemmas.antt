@@ -196,6 +196,7 @@ IsKeptServer-ready lines m moment x s k = record {
   is_open = λ stays. rw k.paid refl;
   generation = let g = k.generation in rw k.paid (omega arith);
   checked = k.checked;
+  paced = k.paced;
 }
 
 cleared_open : (s : ServerState) → is_closed s.pool.state.state ≡ false → is_closed (pool.cleared_state s.pool.state.state) ≡ false
@@ -212,4 +213,5 @@ IsKeptServer-clear lines m moment x s k = record {
   is_open = λ stays. rw k.paid (cleared_open s (k.is_open stays));
   generation = let g = k.generation in rw k.paid (omega arith);
   checked = k.checked;
+  paced = k.paced;
 }

@@ -200,6 +200,7 @@ IsKeptServer-more lines m n x s h k = record {
   is_open = k.is_open;
   generation = let g = k.generation in omega arith;
   checked = k.checked;
+  paced = k.paced;
 }
 
 pub AreKeptServers-more : (lines : Lines) (m n : ℕ) (ss : List ServerState) → m ≤ n → AreKeptServers lines m ss → AreKeptServers lines n ss
@@ -239,6 +240,7 @@ IsKeptServer-closed old new stream k n x s line there is_for apart others kept =
   is_open = kept.is_open;
   generation = kept.generation;
   checked = HasStream-closed old new stream k x s.checks.began s.check_stream line there is_for apart others kept.checked;
+  paced = kept.paced;
 }
 
 pub AreKeptServers-closed : (old new : Lines) (n : ℕ) (ss : List ServerState) (k stream : ℕ) (t : ServerState) (line : Line) → line_at old stream ≡ Some line →

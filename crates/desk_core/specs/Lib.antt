@@ -8,3 +8,5 @@ pub mod Due
 pub mod Driven
 pub mod Answered
 pub mod Ending
+pub mod Sights
+pub mod Rests

@@ -26,13 +26,15 @@ HasStream lines x began (Some stream) =
     (line : Line) × (line_at lines stream ≡ Some line) × (line.is_for ≡ for_use.Check x) × (began ≡ None → line.wire.unsent ≡ [])
 
 -- What is kept of each server, by its number: nothing must come next of its pool, in which no connection is available; its pool is
--- open while it stands in the topology; its generation is less than the entries of the trail; and its checks have their stream.
+-- open while it stands in the topology; its generation is less than the entries of the trail; its checks have their stream, and
+-- some time between two of them.
 pub record IsKeptServer (lines : Lines) (entries x : ℕ) (s : ServerState) : Type 0 where
   pub paid : s.pool.owed ≡ []
   pub none : s.pool.state.available ≡ []
   pub is_open : s.has_left ≡ false → is_closed s.pool.state.state ≡ false
   pub generation : s.pool.state.generation < entries
   pub checked : HasStream lines x s.checks.began s.check_stream
+  pub paced : 0 < s.checks.beat
 
 abbrev pub AreKeptServers : Lines → ℕ → List ServerState → Type 0
 AreKeptServers lines entries servers = (x : ℕ) (s : ServerState) → slice_get servers x ≡ Some s → IsKeptServer lines entries x s

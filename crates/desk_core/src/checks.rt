@@ -1,14 +1,16 @@
-ghost use Rattle.std.specs.Prelude.{◌≡◌, ◌≢◌, ◌≤◌, ◌+◌, ◌^◌, ℕ, List, [], ◌∷◌, true, false, not, Ok, None, Some, OnOk, IfOk, IfSome, is_some, length, nat_lt, slice_get};
+ghost use Rattle.std.specs.Prelude.{◌≡◌, ◌≢◌, ◌≤◌, ◌⊎◌, ◌+◌, ◌^◌, ℕ, List, [], ◌∷◌, true, false, not, Ok, None, Some, OnOk, IfNone, IfOk, IfSome, is_some, length, nat_lt, slice_get};
 ghost use Rattle.std.specs.Option.{option_map_or};
 ghost use Rattle.desk_trail.specs.declared.request.Purpose.TheVariants as purpose_of;
 ghost use Rattle.desk_trail.specs.Checks.{AtServer, IsCheckStream, IsDue, IsNew, Runs};
 ghost use Rattle.desk_trail.specs.Owed.{IsHello, Owed};
 ghost use Rattle.desk_trail.specs.Requests.{id_at};
 ghost use Rattle.desk_trail.specs.States.{ServerState};
-ghost use Rattle.desk_trail.specs.Topologies.{asks_of};
+ghost use Rattle.desk_trail.specs.Topologies.{asks_of, offered_after};
 ghost use Rattle.desk_wire.specs.State.{opened};
+ghost use Rattle.host_name.specs.Addresses.{Address};
 ghost use Rattle.net_link.specs.Causes.{HasCause, Rose};
 ghost use Rattle.topo_book.specs.Means.{stands_known};
+ghost use Rattle.topo_rules.specs.declared.event.TopoEvent.TheVariants as event_as;
 ghost use Rattle.topo_rules.specs.Laws.{listed_by};
 ghost use Rattle.wired_trail.specs.Lines.{line_at};
 ghost use Rattle.wired_trail.specs.declared.lines.Line.{Line};
@@ -16,6 +18,8 @@ ghost use Rattle.wired_trail.specs.declared.stream_use.StreamUse.TheVariants as 
 ghost use Rattle.desk_core.specs.Appends.{Appends};
 ghost use Rattle.desk_core.specs.Follows.{IsToOffer};
 ghost use Rattle.desk_core.specs.Kept.{IsReady, IsWriting};
+ghost use Rattle.desk_core.specs.Rests.{HasBegun, HasEnded, KeepsChecks};
+ghost use Rattle.desk_core.specs.Sights.{IsAtRest, IsAwaited};
 
 use crate::Memory;
 use crate::check_result::{CheckResult, Running, broken};
@@ -116,6 +120,8 @@ impl<N: Net> Core<N> {
         requires ready { IsReady self.old moment }
         requires due { AtServer self.old.trail.point.state host (IsDue moment) }
         ensures ok { OnOk result (IsReady self.new moment) }
+        ensures begins { OnOk result (IsAtRest self.new.trail.point.state moment host
+            ⊎ HasBegun self.old.trail.point.state self.new.trail.point.state host) }
         ensures faults { N.faults self.old.net ≤ N.faults self.new.net }
         ensures appends { Appends (Rose (N.faults self.old.net) (N.faults self.new.net)) moment self.old.trail self.new.trail }
     {
@@ -142,6 +148,7 @@ impl<N: Net> Core<N> {
             × IsCheckStream self.old.trail.point.state s.check_stream stream × (first ≡ not (is_some s.check_stream))) }
         requires line { (line : Line) × (line_at self.old.lines stream ≡ Some line) × (line.is_for ≡ for_use.Check host) × (line.wire.unsent ≡ []) }
         ensures ok { OnOk result (IsReady self.new moment) }
+        ensures begins { OnOk result (HasBegun self.old.trail.point.state self.new.trail.point.state host) }
         ensures faults { N.faults self.old.net ≤ N.faults self.new.net }
         ensures appends { Appends ⊥ moment self.old.trail self.new.trail }
     {
@@ -163,6 +170,7 @@ impl<N: Net> Core<N> {
         requires ready { IsReady self.old moment }
         requires due { AtServer self.old.trail.point.state host (λ s. IsDue moment s × (s.check_stream ≡ None)) }
         ensures ok { OnOk result (IsReady self.new moment) }
+        ensures rests { OnOk result (IsAtRest self.new.trail.point.state moment host) }
         ensures faults { N.faults self.old.net ≤ N.faults self.new.net }
         ensures appends { Appends (Unit {0}) moment self.old.trail self.new.trail }
     {
@@ -217,6 +225,8 @@ impl<N: Net> Core<N> {
         requires of_check { asks_of event ≡ None }
         requires count { length self.old.trail.lists.names + length (listed_by event) ≤ 2 ^ 32 }
         ensures ok { OnOk result (IsReady self.new moment) }
+        ensures checks { OnOk result (KeepsChecks (offered_after moment event self.old.trail.point.state) self.new.trail.point.state) }
+        ensures unknown { OnOk result ((host : Address) → event ≡ event_as.Broken host None → stands_known self.new.trail.point.state.topology host ≡ false) }
         ensures faults { N.faults self.old.net ≤ N.faults self.new.net }
         ensures appends { Appends ⊥ moment self.old.trail self.new.trail }
     {
@@ -235,6 +245,8 @@ impl<N: Net> Core<N> {
         requires ready { IsReady self.old moment }
         requires runs { AtServer self.old.trail.point.state host (λ s. (began : ℕ) × Runs began s) }
         ensures ok { OnOk result (IsReady self.new moment) }
+        ensures waits { IfOk result (λ r. IfSome r (λ until. IsAwaited self.new.trail.client self.new.trail.point.state moment host until)) }
+        ensures ends { IfOk result (λ r. IfNone r (HasEnded self.old.trail.point.state self.new.trail.point.state moment host)) }
         ensures faults { N.faults self.old.net ≤ N.faults self.new.net }
         ensures appends { Appends (Rose (N.faults self.old.net) (N.faults self.new.net)) moment self.old.trail self.new.trail }
     {

@@ -7,6 +7,7 @@ ghost use Rattle.legal_trail.specs.Recorded.{Recorded};
 ghost use Rattle.desk_core.specs.Appends.{Appends};
 ghost use Rattle.desk_core.specs.Due.{IsNext};
 ghost use Rattle.desk_core.specs.Ending.{ArePoolsShut};
+ghost use Rattle.desk_core.specs.Sights.{MeansCheck};
 ghost use Rattle.desk_core.specs.State.{now_of};
 
 use crate::opening::{copies_of, seeds_of};
@@ -121,11 +122,13 @@ impl<N: Net> Desk<N> {
     }
 
     /// Begins, drives or ends the check of one server (Server Monitoring). `moment` is in microseconds; what is appended to the
-    /// trail has the moment of the step, which is no earlier than the last one's. Of a number that no server of the topology has
-    /// the answer is `Answered`. After `Memory` the desk is stopped.
+    /// trail has the moment of the step, which is no earlier than the last one's. `Answered` says that behind the step no check
+    /// of the server is due or runs, so too of a number that no server of the topology has; `Wait` that one runs whose answer is
+    /// waited for until a later moment, connectTimeoutMS after it began. It is never `Again`. After `Memory` the desk is stopped.
     pub fn step_check(&mut self, alloc: Global, host: u32, moment: u64) -> Result<Sight, Memory>
         requires runs { self.old.is_stopped ≡ false }
         ensures now { self.new.last ≡ now_of self.old.last moment }
+        ensures sight { IfOk result (MeansCheck self.new.trail.client self.new.trail.point.state (now_of self.old.last moment) host) }
         ensures appends { Appends (Rose (N.faults self.old.net) (N.faults self.new.net)) (now_of self.old.last moment) self.old.trail self.new.trail }
         ensures ok { OnOk result (self.new.is_stopped ≡ false) }
         ensures err { OnErr result (self.new.is_stopped ≡ true) }

@@ -1,4 +1,4 @@
-ghost use Rattle.std.specs.Prelude.{◌≡◌, ◌≢◌, ◌≤◌, ◌+◌, ◌^◌, ℕ, true, false, length, IfNone, IfOk, IfSome};
+ghost use Rattle.std.specs.Prelude.{◌≡◌, ◌≢◌, ◌≤◌, ◌<◌, ◌+◌, ◌^◌, ℕ, true, false, length, IfNone, IfOk, IfSome};
 ghost use Rattle.net_link.specs.Causes.{HasCause};
 ghost use Rattle.topo_rules.specs.Laws.{listed_by};
 ghost use Rattle.desk_wire.specs.declared.answers.Pulled.{Pulled as Answer};
@@ -60,6 +60,7 @@ pub fn drive<N: Net>(
     requires there { IsThere wired.old.lines stream }
     ensures trail { wired.new.trail ≡ wired.old.trail }
     ensures others { KeepsOthers stream wired.old.lines wired.new.lines }
+    ensures early { IfOk result (λ r. IfNone r (moment < check.entry.limit)) }
     ensures waits { IfOk result (λ r. IfNone r (IsStillUsed wired.old.lines wired.new.lines stream)) }
     ensures kept { IfOk result (λ r. IfSome r (λ end. (sample : ℕ) → end.how ≡ how_as.Reply sample → IsKeptIdle wired.old.lines wired.new.lines stream)) }
     ensures ends { IfOk result (λ r. IfSome r (λ end. (answer : Answer)

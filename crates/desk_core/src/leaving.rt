@@ -6,6 +6,7 @@ ghost use Rattle.desk_trail.specs.Owed as owed;
 ghost use Rattle.desk_trail.specs.States.{ServerState, Stays, number_of};
 ghost use Rattle.desk_core.specs.Appends.{Appends};
 ghost use Rattle.desk_core.specs.Kept.{IsWriting};
+ghost use Rattle.desk_core.specs.Rests.{KeepsChecks};
 ghost use Rattle.desk_core.specs.Servers.{IsUntouched, TouchesOnly};
 ghost use Rattle.wired_trail.specs.Lines.{IsThere, KeepsOthers};
 
@@ -37,6 +38,7 @@ impl<N: Net> Core<N> {
         ensures writing { (rest : List Owed) (n : ℕ) → IsWriting self.old moment (n + 1) (owed.Dropped host ∷ rest) → IsWriting self.new moment n rest }
         ensures others { (s : ServerState) → slice_get self.old.trail.point.state.servers host ≡ Some s
             → TouchesOnly s.address self.old.trail.point.state self.new.trail.point.state }
+        ensures checks { KeepsChecks self.old.trail.point.state self.new.trail.point.state }
         ensures names { self.new.trail.lists.names ≡ self.old.trail.lists.names }
         ensures faults { N.faults self.old.net ≤ N.faults self.new.net }
         ensures appends { Appends ⊥ moment self.old.trail self.new.trail }
@@ -58,6 +60,7 @@ impl<N: Net> Core<N> {
             → IsWriting self.old moment (n + 1) (map (λ x. owed.Dropped x) (option_to_list (number_of self.old.trail.point.state host.now)) ++ rest)
             → IsWriting self.new moment n rest }
         ensures others { TouchesOnly host.now self.old.trail.point.state self.new.trail.point.state }
+        ensures checks { KeepsChecks self.old.trail.point.state self.new.trail.point.state }
         ensures names { self.new.trail.lists.names ≡ self.old.trail.lists.names }
         ensures faults { N.faults self.old.net ≤ N.faults self.new.net }
         ensures appends { Appends ⊥ moment self.old.trail self.new.trail }
@@ -77,6 +80,7 @@ impl<N: Net> Core<N> {
             → IsWriting self.new moment n rest }
         ensures others { (a : Address) → list_any (λ h. is_same_address h a) hosts.now ≡ false
             → IsUntouched self.old.trail.point.state self.new.trail.point.state a }
+        ensures checks { KeepsChecks self.old.trail.point.state self.new.trail.point.state }
         ensures names { self.new.trail.lists.names ≡ self.old.trail.lists.names }
         ensures faults { N.faults self.old.net ≤ N.faults self.new.net }
         ensures appends { Appends ⊥ moment self.old.trail self.new.trail }

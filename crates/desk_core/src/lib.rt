@@ -12,8 +12,8 @@
 //! ```
 //!
 //! Contracts see a desk as `Desk` of `specs/State.antt`: its net, its trail with the point to which that leads, the moment of
-//! its last step, and whether it stopped for want of memory. Read `State`, `Appends`, `Due` and `Ending`; what private
-//! functions keep among themselves stands in `Kept`, `Servers`, `Follows`, `Ends`, `Driven` and `Answered`.
+//! its last step, and whether it stopped for want of memory. Read `State`, `Appends`, `Sights`, `Due` and `Ending`; what private
+//! functions keep among themselves stands in `Kept`, `Servers`, `Rests`, `Follows`, `Ends`, `Driven` and `Answered`.
 //! Calls that allocate take an allocator.
 #![tactic(auto)]
 

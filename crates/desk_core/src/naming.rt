@@ -5,6 +5,7 @@ ghost use Rattle.desk_trail.specs.Owed as owed;
 ghost use Rattle.desk_trail.specs.States.{fresh_server, number_from};
 ghost use Rattle.desk_core.specs.Appends.{Appends};
 ghost use Rattle.desk_core.specs.Kept.{IsWriting};
+ghost use Rattle.desk_core.specs.Rests.{KeepsChecks};
 ghost use Rattle.desk_core.specs.Servers.{TouchesOnly};
 
 use crate::Memory;
@@ -65,6 +66,7 @@ fn newcomer(
     requires { moment ≤ 2 ^ 62 }
     ensures name { IfOk result (λ made. made.0 ≡ host.now) }
     ensures server { IfOk result (λ made. (client : Client) → client.settings ≡ settings.now → made.1 ≡ fresh_server client moment host.now) }
+    ensures paced { IfOk result (λ made. 0 < made.1.checks.beat) }
 {
     let name = host.copy(alloc)?;
     let host = host.copy(alloc)?;
@@ -86,6 +88,7 @@ impl<N: Net> Core<N> {
         requires count { length self.old.trail.lists.names < 2 ^ 32 }
         ensures ok { (rest : List Owed) (n : ℕ) → IsWriting self.old moment (n + 2) (owed.Named host.now ∷ rest) → OnOk result (IsWriting self.new moment n rest) }
         ensures others { OnOk result (TouchesOnly host.now self.old.trail.point.state self.new.trail.point.state) }
+        ensures checks { OnOk result (KeepsChecks self.old.trail.point.state self.new.trail.point.state) }
         ensures names { OnOk result (self.new.trail.lists.names ≡ self.old.trail.lists.names ++ host.now ∷ []) }
         ensures net { self.new.net ≡ self.old.net }
         ensures lines { self.new.lines ≡ self.old.lines }

@@ -1,18 +1,21 @@
-ghost use Rattle.std.specs.Prelude.{◌≡◌, ◌≤◌, ◌+◌, ◌*◌, ◌^◌, ◌++◌, ◌∷◌, ℕ, List, None, IfSome, OnOk, length, map};
+ghost use Rattle.std.specs.Prelude.{◌≡◌, ◌≤◌, ◌+◌, ◌*◌, ◌^◌, ◌++◌, ◌∷◌, ℕ, List, None, false, IfSome, OnOk, length, map};
 ghost use Rattle.host_name.specs.Addresses.{Address};
+ghost use Rattle.topo_book.specs.Means.{stands_known};
 ghost use Rattle.topo_book.specs.Offers.{IfAccepted, verdict_of};
 ghost use Rattle.topo_rules.specs.declared.event.TopoEvent.{TopoEvent};
+ghost use Rattle.topo_rules.specs.declared.event.TopoEvent.TheVariants as event_as;
 ghost use Rattle.topo_rules.specs.Changes.{IsChange};
 ghost use Rattle.topo_rules.specs.Laws.{listed_by};
 ghost use Rattle.topo_rules.specs.Rules as rules;
 ghost use Rattle.desk_trail.specs.Owed.{Owed};
 ghost use Rattle.desk_trail.specs.Owed as owed;
 ghost use Rattle.desk_trail.specs.States.{ClientState};
-ghost use Rattle.desk_trail.specs.Topologies.{Says, asks_of};
+ghost use Rattle.desk_trail.specs.Topologies.{Says, asks_of, offered_after};
 ghost use Rattle.desk_core.specs.Answered.{added_by, removed_by};
 ghost use Rattle.desk_core.specs.Appends.{Appends};
 ghost use Rattle.desk_core.specs.Follows.{AreApart, IsNone, IsToOffer, entries_for, owed_by};
 ghost use Rattle.desk_core.specs.Kept.{IsWriting};
+ghost use Rattle.desk_core.specs.Rests.{KeepsChecks};
 ghost use Rattle.desk_core.specs.Servers.{IsUntouched};
 
 use crate::Memory;
@@ -71,6 +74,7 @@ impl<N: Net> Core<N> {
             → IsWriting self.old moment (n + 2 * length hosts.now) (map (λ h. owed.Named h) hosts.now ++ rest)
             → OnOk result (IsWriting self.new moment n rest) }
         ensures others { OnOk result ((a : Address) → IsNone a hosts.now → IsUntouched self.old.trail.point.state self.new.trail.point.state a) }
+        ensures checks { OnOk result (KeepsChecks self.old.trail.point.state self.new.trail.point.state) }
         ensures names { OnOk result (self.new.trail.lists.names ≡ self.old.trail.lists.names ++ hosts.now) }
         ensures net { self.new.net ≡ self.old.net }
         ensures lines { self.new.lines ≡ self.old.lines }
@@ -92,6 +96,7 @@ impl<N: Net> Core<N> {
         ensures ok { (rest : List Owed) (n : ℕ)
             → IsWriting self.old moment (n + entries_for change.now) (owed_by self.old.trail.point.state change.now ++ rest)
             → OnOk result (IsWriting self.new moment n rest) }
+        ensures checks { OnOk result (KeepsChecks self.old.trail.point.state self.new.trail.point.state) }
         ensures names { OnOk result (self.new.trail.lists.names ≡ self.old.trail.lists.names ++ change.now.added) }
         ensures faults { N.faults self.old.net ≤ N.faults self.new.net }
         ensures appends { Appends ⊥ moment self.old.trail self.new.trail }
@@ -109,6 +114,8 @@ impl<N: Net> Core<N> {
         requires of_check { asks_of event ≡ None }
         requires count { length self.old.trail.lists.names + length (listed_by event) ≤ 2 ^ 32 }
         ensures ok { (first : Owed) (rest : List Owed) → IsWriting self.old moment 0 (first ∷ rest) → OnOk result (IsWriting self.new moment 0 rest) }
+        ensures checks { OnOk result (KeepsChecks (offered_after moment event self.old.trail.point.state) self.new.trail.point.state) }
+        ensures unknown { OnOk result ((host : Address) → event ≡ event_as.Broken host None → stands_known self.new.trail.point.state.topology host ≡ false) }
         ensures names { OnOk result (length self.new.trail.lists.names ≤ length self.old.trail.lists.names + length (listed_by event)) }
         ensures faults { N.faults self.old.net ≤ N.faults self.new.net }
         ensures appends { Appends ⊥ moment self.old.trail self.new.trail }
@@ -125,6 +132,7 @@ impl<N: Net> Core<N> {
             return Err(memory);
         }
         topo_rules::laws::moves_are_bounded();
+        topo_rules::laws::nothing_else_stands();
         self.wired.offer(moment, event, said_of(&taken));
         match taken {
             Taken::Accepted(change) => self.follow(alloc, moment, &change),

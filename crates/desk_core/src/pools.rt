@@ -7,6 +7,7 @@ ghost use Rattle.desk_trail.specs.States.{ServerState, number_of};
 ghost use Rattle.desk_trail.specs.Topologies.{cleared, generation_for, generation_in, is_paused_at, readied, server_with};
 ghost use Rattle.desk_core.specs.Appends.{Appends};
 ghost use Rattle.desk_core.specs.Kept.{IsWriting};
+ghost use Rattle.desk_core.specs.Rests.{KeepsChecks};
 
 use crate::state::Core;
 use desk_trail::{Entry, Step};
@@ -36,6 +37,7 @@ impl<N: Net> Core<N> {
         requires paused { is_paused_at self.old.trail.point.state host ≡ true }
         ensures writing { (rest : List Owed) (n : ℕ) → IsWriting self.old moment (n + 1) (owed.PoolReady host ∷ rest) → IsWriting self.new moment n rest }
         ensures numbers { (a : Address) → number_of self.new.trail.point.state a ≡ number_of self.old.trail.point.state a }
+        ensures checks { KeepsChecks self.old.trail.point.state self.new.trail.point.state }
         ensures names { self.new.trail.lists.names ≡ self.old.trail.lists.names }
         ensures faults { N.faults self.old.net ≤ N.faults self.new.net }
         ensures appends { Appends ⊥ moment self.old.trail self.new.trail }
@@ -50,6 +52,7 @@ impl<N: Net> Core<N> {
         requires writing { (rest : List Owed) × (n : ℕ) × IsWriting self.old moment (n + 1) (owed.PoolClear host ∷ rest) }
         requires there { (s : ServerState) × (slice_get self.old.trail.point.state.servers host ≡ Some s) }
         ensures writing { (rest : List Owed) (n : ℕ) → IsWriting self.old moment (n + 1) (owed.PoolClear host ∷ rest) → IsWriting self.new moment n rest }
+        ensures checks { KeepsChecks self.old.trail.point.state self.new.trail.point.state }
         ensures names { self.new.trail.lists.names ≡ self.old.trail.lists.names }
         ensures faults { N.faults self.old.net ≤ N.faults self.new.net }
         ensures appends { Appends ⊥ moment self.old.trail self.new.trail }
@@ -68,6 +71,7 @@ impl<N: Net> Core<N> {
             → IsWriting self.old moment (n + 1) (readied self.old.trail.point.state (number_of self.old.trail.point.state host.now) ++ rest)
             → IsWriting self.new moment n rest }
         ensures numbers { (a : Address) → number_of self.new.trail.point.state a ≡ number_of self.old.trail.point.state a }
+        ensures checks { KeepsChecks self.old.trail.point.state self.new.trail.point.state }
         ensures names { self.new.trail.lists.names ≡ self.old.trail.lists.names }
         ensures faults { N.faults self.old.net ≤ N.faults self.new.net }
         ensures appends { Appends ⊥ moment self.old.trail self.new.trail }
@@ -86,6 +90,7 @@ impl<N: Net> Core<N> {
         ensures writing { (rest : List Owed) (n : ℕ)
             → IsWriting self.old moment (n + 1) (cleared (number_of self.old.trail.point.state host.now) ++ rest)
             → IsWriting self.new moment n rest }
+        ensures checks { KeepsChecks self.old.trail.point.state self.new.trail.point.state }
         ensures names { self.new.trail.lists.names ≡ self.old.trail.lists.names }
         ensures faults { N.faults self.old.net ≤ N.faults self.new.net }
         ensures appends { Appends ⊥ moment self.old.trail self.new.trail }
@@ -103,6 +108,7 @@ impl<N: Net> Core<N> {
             (readied self.old.trail.point.state (option_and_then (number_of self.old.trail.point.state) host.now) ++ rest)
             → IsWriting self.new moment n rest }
         ensures numbers { (a : Address) → number_of self.new.trail.point.state a ≡ number_of self.old.trail.point.state a }
+        ensures checks { KeepsChecks self.old.trail.point.state self.new.trail.point.state }
         ensures names { self.new.trail.lists.names ≡ self.old.trail.lists.names }
         ensures faults { N.faults self.old.net ≤ N.faults self.new.net }
         ensures appends { Appends ⊥ moment self.old.trail self.new.trail }
@@ -119,6 +125,7 @@ impl<N: Net> Core<N> {
         ensures writing { (rest : List Owed) (n : ℕ)
             → IsWriting self.old moment (n + 1) (cleared (option_and_then (number_of self.old.trail.point.state) host.now) ++ rest)
             → IsWriting self.new moment n rest }
+        ensures checks { KeepsChecks self.old.trail.point.state self.new.trail.point.state }
         ensures names { self.new.trail.lists.names ≡ self.old.trail.lists.names }
         ensures faults { N.faults self.old.net ≤ N.faults self.new.net }
         ensures appends { Appends ⊥ moment self.old.trail self.new.trail }

@@ -58,7 +58,8 @@ impl Server {
         requires connecting { 1 ≤ rules.max_connecting }
         requires beat { beat_micros ≤ 2 ^ 42 }
         requires moment { moment ≤ 2 ^ 62 }
-        ensures { (client : Client) → rules ≡ pool_rules client → beat_micros ≡ beat client → result ≡ fresh_server client moment host }
+        ensures server { (client : Client) → rules ≡ pool_rules client → beat_micros ≡ beat client → result ≡ fresh_server client moment host }
+        ensures beat { result.checks.beat ≡ beat_micros }
     {
         Server {
             host,

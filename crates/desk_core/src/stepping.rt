@@ -1,8 +1,10 @@
-ghost use Rattle.std.specs.Prelude.{◌≡◌, ◌≤◌, ◌^◌, ℕ, true, false, OnOk};
+ghost use Rattle.std.specs.Prelude.{◌≡◌, ◌≤◌, ◌^◌, ℕ, true, false, IfNone, IfOk, IfSome, OnOk};
 ghost use Rattle.net_link.specs.Causes.{Rose};
 ghost use Rattle.desk_trail.specs.Checks.{AtServer, IsDue, Runs};
 ghost use Rattle.desk_core.specs.Appends.{Appends};
 ghost use Rattle.desk_core.specs.Kept.{IsReady};
+ghost use Rattle.desk_core.specs.Rests.{HasEnded};
+ghost use Rattle.desk_core.specs.Sights.{IsAwaited, MeansCheck};
 ghost use Rattle.desk_core.specs.State.{now_of};
 
 use crate::state::Core;
@@ -34,7 +36,8 @@ impl<N: Net> Core<N> {
     /// Whether a check of the server is due.
     fn is_due(&self, moment: u64, host: u32) -> bool
         requires { self.now.is_stopped ≡ false }
-        ensures { result ≡ true → AtServer self.now.trail.point.state host (IsDue moment) }
+        ensures yes { result ≡ true → AtServer self.now.trail.point.state host (IsDue moment) }
+        ensures no { result ≡ false → AtServer self.now.trail.point.state host (IsDue moment) → ⊥ }
     {
         match self.servers.get(host as usize) {
             Some(server) => !server.has_left()
@@ -47,7 +50,8 @@ impl<N: Net> Core<N> {
     /// Whether a check of the server runs.
     fn is_running(&self, host: u32) -> bool
         requires { self.now.is_stopped ≡ false }
-        ensures { result ≡ true → AtServer self.now.trail.point.state host (λ s. (began : ℕ) × Runs began s) }
+        ensures yes { result ≡ true → AtServer self.now.trail.point.state host (λ s. (began : ℕ) × Runs began s) }
+        ensures no { result ≡ false → AtServer self.now.trail.point.state host (λ s. (began : ℕ) × Runs began s) → ⊥ }
     {
         match self.servers.get(host as usize) {
             Some(server) => !server.has_left() && server.began().is_some(),
@@ -60,6 +64,8 @@ impl<N: Net> Core<N> {
     fn check_once(&mut self, alloc: Global, moment: u64, host: u32) -> Result<Option<u64>, Memory>
         requires ready { IsReady self.old moment }
         ensures ok { OnOk result (IsReady self.new moment) }
+        ensures waits { IfOk result (λ r. IfSome r (λ until. IsAwaited self.new.trail.client self.new.trail.point.state moment host until)) }
+        ensures ends { IfOk result (λ r. IfNone r (HasEnded self.old.trail.point.state self.new.trail.point.state moment host)) }
         ensures faults { N.faults self.old.net ≤ N.faults self.new.net }
         ensures appends { Appends (Rose (N.faults self.old.net) (N.faults self.new.net)) moment self.old.trail self.new.trail }
     {
@@ -78,6 +84,7 @@ impl<N: Net> Core<N> {
     pub fn check(&mut self, alloc: Global, moment: u64, host: u32) -> Result<Sight, Memory>
         requires ready { IsReady self.old moment }
         ensures ok { OnOk result (IsReady self.new moment) }
+        ensures sight { IfOk result (MeansCheck self.new.trail.client self.new.trail.point.state moment host) }
         ensures faults { N.faults self.old.net ≤ N.faults self.new.net }
         ensures appends { Appends (Rose (N.faults self.old.net) (N.faults self.new.net)) moment self.old.trail self.new.trail }
     {

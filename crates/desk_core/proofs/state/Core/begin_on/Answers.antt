@@ -15,10 +15,12 @@ use Rattle.desk_trail.specs.States.{ClientState, ServerState}
 use Rattle.desk_trail.specs.Written.{IsAtLeast, a_request, an_entry}
 use Rattle.legal_trail.specs.Recorded.{Recorded}
 use Rattle.wired_trail.specs.Lines.{KeepsOthers, line_at, with_unsent}
+use Rattle.desk_core.specs.Rests.{HasBegun}
 use Rattle.desk_core.proofs.AppendsLemmas.{Appends-adds, Appends-room, Appends-trans, AreLonger-refl, AreLonger-requests}
 use Rattle.desk_core.proofs.CheckLemmas.{Begins, IsBegun, IsBegun-by, IsKept-begun, StandsAt-began, StandsAt-hello}
 use Rattle.desk_core.proofs.DropLemmas.{read-there}
 use Rattle.desk_core.proofs.KeptLemmas.{IsKept-room, servers-of}
+use Rattle.desk_core.proofs.SightLemmas.{HasBegun-led}
 use Rattle.desk_core.proofs.state.Core.begin_on.Goals as goal
 
 pub invariant_of-self : goal.invariant_of-self
@@ -184,3 +186,53 @@ returns-clause-appends g c =
     (c.append.ensures.adds (fact.CheckBegan c.args.host c.args.stream) refl) (λ e. absurd (cc)))
     (Appends-adds a_request _ c.args.moment (entry_of.Asked (length between.lists.requests)) (fact.Asked (length between.lists.requests) q) between new
     (AreLonger-requests between.lists (q ∷ [])) c.ask.ensures.adds (λ e. absurd (cc)))))
+
+pub returns-clause-begins : goal.returns-clause-begins
+returns-clause-begins g c =
+    let ready = rw (← c.self.view_is) at c.requires.ready in
+    let due = rw (← c.self.view_is) at c.requires.due in
+    let line = rw (← c.self.view_is) at c.requires.line in
+    let h = c.self.invariant.leads ready.runs in
+    let r : Recorded = c.reserve.new.self.trail in
+    let same = c.reserve.ensures.same in
+    let kept =
+    IsKept-room c.self.inside.wired c.reserve.new.self c.self.inside.topology.topology c.self.inside.servers.items c.self.inside.gossip c.self.inside.standing c.self.inside.last c.self.inside.stopped
+    same c.reserve.ensures.kept c.self.invariant in
+    let there : slice_get c.self.inside.servers.items c.args.host ≡ Some due.0 = ap (λ (s : ClientState). slice_get s.servers c.args.host) (sym h.state) ∙ due.1 in
+    let is : c.index_mut-server.result.now ≡ due.0 =
+    read-there c.self.inside.servers.items c.args.host due.0 c.index_mut-server.result.now there c.index_mut-server.ensures.value in
+    let adds = c.append.ensures.adds (fact.CheckBegan c.args.host c.args.stream) refl in
+    let hello = c.in_ok-request.ensures.hello in
+    let q = c.in_ok-request.request in
+    let lines : c.append.new.self.lines ≡ c.reserve.new.self.lines = ap (λ s. s.lines) c.append.ensures.same in
+    let line_there : line_at c.reserve.new.self.lines c.args.stream ≡ Some line.0 = ap (λ s. line_at s.lines c.args.stream) same ∙ line.1 in
+    let now_there : line_at c.ask.new.self.lines c.args.stream ≡ Some (with_unsent q.bytes line.0) =
+    ap (line_at c.ask.new.self.lines) (sym hello.on) ∙ c.ask.ensures.queued
+    ∙ ap (λ x. option_map (with_unsent q.bytes) (line_at c.append.new.self.lines x)) hello.on
+    ∙ ap (λ l. option_map (with_unsent q.bytes) (line_at l c.args.stream)) lines ∙ ap (option_map (with_unsent q.bytes)) line_there in
+    let others : KeepsOthers c.args.stream c.reserve.new.self.lines c.ask.new.self.lines =
+    λ other n. c.ask.ensures.others other (λ (e : other ≡ q.stream). n (e ∙ hello.on)) ∙ ap (λ l. line_at l other) lines in
+    let both : Begins r c.append.new.self.trail c.ask.new.self.trail c.args.moment c.args.host c.args.stream = record {
+      place = length c.append.new.self.trail.lists.requests;
+      begin = entry_of.CheckBegan c.args.host c.args.stream;
+      ask = entry_of.Asked (length c.append.new.self.trail.lists.requests);
+      request = q;
+      is_for = hello.is_for;
+      began = adds;
+      asked = c.ask.ensures.adds;
+    } in
+    let more : IsAtLeast (record { names = 0; events = 0; sessions = 0; requests = 1; steps = c.self.inside.standing + 2 }) r.room =
+    subst (λ (m : Room). IsAtLeast m r.room) c.in_ok-room.ensures c.in_ok-reserve.ensures.room in
+    let steps = more.steps in
+    let used_first = adds.room_used.steps in
+    let used_then = c.ask.ensures.adds.room_used.steps in
+    let now =
+    IsKept-begun r c.append.new.self.trail c.ask.new.self.trail c.reserve.new.self.lines c.ask.new.self.lines c.self.inside.topology.topology c.self.inside.servers.items c.self.inside.gossip
+    c.self.inside.standing c.self.inside.last c.args.moment c.args.host c.args.stream c.self.inside.stopped due.0 c.begin_check.new.self line.0 (with_unsent q.bytes line.0) both there
+    due.2.0.stays line_there line.2 now_there line.2 others ready.now (omega arith) (c.begin_check.ensures ∙ ap (check_begins c.args.moment c.args.stream) is) kept in
+    let point : r.point ≡ c.self.inside.wired.trail.point = ap (λ s. s.trail.point) same in
+    rw (← c.self.view_is)
+    (subst (λ (p : Point). HasBegun p.state c.ask.new.self.trail.point.state c.args.host) point
+    (HasBegun-led r c.ask.new.self.trail c.reserve.new.self.lines c.ask.new.self.lines c.self.inside.topology.topology c.self.inside.servers.items c.self.inside.gossip c.self.inside.last
+    c.args.moment c.args.host c.args.stream due.0 c.begin_check.new.self (kept.leads ready.runs) (now.leads ready.runs) there
+    (c.begin_check.ensures ∙ ap (check_begins c.args.moment c.args.stream) is) due.2.0.stays))

@@ -1,5 +1,6 @@
 use Rattle.std.proofs.Common.{◌≡◌, ◌≤◌, ℕ, ◌+◌, [], Option, Some, refl, sym, ap, ◌∙◌, subst, arith}
 use Rattle.std.specs.Option.{IsSome}
+use Rattle.std.specs.Prelude.{slice_get}
 use Rattle.std.proofs.lemmas.Option.{slice_get_within}
 use Rattle.net_link.specs.Causes.{Rose}
 use Rattle.topo_book.specs.Means.{stands_known}
@@ -15,11 +16,14 @@ use Rattle.legal_trail.specs.Recorded.{Recorded}
 use Rattle.wired_trail.specs.Lines.{Lines, line_at}
 use Rattle.desk_core.specs.Ends.{IsEndBy}
 use Rattle.desk_core.specs.Kept.{IsKept}
+use Rattle.desk_core.specs.Rests.{HasEnded}
+use Rattle.desk_core.specs.Sights.{IsAwaited}
 use Rattle.desk_core.proofs.AppendsLemmas.{Appends-refl, Appends-room}
-use Rattle.desk_core.proofs.CheckLemmas.{EndsOn, IsKept-ended, IsOwedBy, IsOwedBy-by, OnlyAt, others_same}
+use Rattle.desk_core.proofs.CheckLemmas.{EndsOn, IsKept-ended, IsOwedBy, IsOwedBy-by, OnlyAt, asks_of-by, others_same}
 use Rattle.desk_core.proofs.DriveLemmas.{Appends-ended, EndsOn-by, IsDriven, IsDriven-of, IsKept-still, IsReply-by, IsRunning, IsRunning-of, Rose-by, StandsAt-driven, length-names, not-undialled, owed-ended}
 use Rattle.desk_core.proofs.DropLemmas.{read-there}
 use Rattle.desk_core.proofs.KeptLemmas.{IsKept-room}
+use Rattle.desk_core.proofs.RestLemmas.{HasEnded-driven, at-ended}
 use Rattle.desk_core.proofs.state.Core.drive_check.Goals.{in_default-via-in-Some+in_default, in_default-via-in_default}
 use Rattle.desk_core.proofs.state.Core.drive_check.Goals as goal
 
@@ -360,3 +364,53 @@ pub returns-in-Err-clause-appends : goal.returns-in-Err-clause-appends
 returns-in-Err-clause-appends g c =
     rw (← c.self.view_is)
     (Appends-room c.args.moment c.self.inside.wired.trail c.drive.new.wired.trail c.reserve.new.self.trail.room (c.drive.ensures.trail ∙ ap (λ s. s.trail) c.reserve.ensures.same))
+
+pub returns-in-Ok-None-clause-waits : goal.returns-in-Ok-None-clause-waits
+returns-in-Ok-None-clause-waits g c =
+    let ready = rw (← c.self.view_is) at c.requires.ready in
+    let runs = rw (← c.self.view_is) at c.requires.runs in
+    let r : Recorded = c.reserve.new.self.trail in
+    let same = c.reserve.ensures.same in
+    let point : r.point ≡ c.self.inside.wired.trail.point = ap (λ s. s.trail.point) same in
+    let kept : IsKept r c.reserve.new.self.lines c.self.inside.topology.topology c.self.inside.servers.items c.self.inside.gossip c.self.inside.standing c.self.inside.last c.self.inside.stopped =
+    IsKept-room c.self.inside.wired c.reserve.new.self c.self.inside.topology.topology c.self.inside.servers.items c.self.inside.gossip c.self.inside.standing c.self.inside.last c.self.inside.stopped same c.reserve.ensures.kept c.self.invariant in
+    let running : IsRunning r c.reserve.new.self.lines c.self.inside.servers.items c.args.host =
+    IsRunning-of r c.reserve.new.self.lines c.self.inside.topology.topology c.self.inside.servers.items c.self.inside.gossip c.self.inside.standing c.self.inside.last c.self.inside.stopped c.args.host kept ready.runs
+    (subst (λ (p : Point). AtServer p.state c.args.host (λ s. (began : ℕ) × Runs began s)) (sym point) runs) in
+    let d : IsDriven r c.reserve.new.self.lines c.self.inside.servers.items c.args.host c.in-Some-Some.stream c.in-Some-Some.began =
+    IsDriven-of r c.reserve.new.self.lines c.self.inside.servers.items c.args.host c.in-Some-Some.stream c.in-Some-Some.began c.index-server.result.now running c.index-server.ensures
+    (sym c.check_stream.ensures ∙ c.in-Some-Some.is-0) (sym c.began.ensures.value ∙ c.in-Some-Some.is-1) in
+    let limits : c.limit_of-limit.result ≡ c.in-Some-Some.began + connect_limit r.client = c.limit_of-limit.ensures r.client (sym c.settings.ensures.value) in
+    let early = rw c.in-Ok-None.field-0-is at c.in-Ok-None.ensures.early in
+    subst (λ (t : Recorded). IsAwaited t.client t.point.state c.args.moment c.args.host c.limit_of-limit.result) (sym c.drive.ensures.trail)
+    ((d.server, d.at_point, (c.in-Some-Some.began, d.runs, limits)), early)
+
+pub returns-in_ok-follow_end-in-Ok-Some-clause-ends : goal.returns-in_ok-follow_end-in-Ok-Some-clause-ends
+returns-in_ok-follow_end-in-Ok-Some-clause-ends g c =
+    let ready = rw (← c.self.view_is) at c.requires.ready in
+    let runs = rw (← c.self.view_is) at c.requires.runs in
+    let r : Recorded = c.reserve.new.self.trail in
+    let same = c.reserve.ensures.same in
+    let point : r.point ≡ c.self.inside.wired.trail.point = ap (λ s. s.trail.point) same in
+    let kept : IsKept r c.reserve.new.self.lines c.self.inside.topology.topology c.self.inside.servers.items c.self.inside.gossip c.self.inside.standing c.self.inside.last c.self.inside.stopped =
+    IsKept-room c.self.inside.wired c.reserve.new.self c.self.inside.topology.topology c.self.inside.servers.items c.self.inside.gossip c.self.inside.standing c.self.inside.last c.self.inside.stopped same c.reserve.ensures.kept c.self.invariant in
+    let running : IsRunning r c.reserve.new.self.lines c.self.inside.servers.items c.args.host =
+    IsRunning-of r c.reserve.new.self.lines c.self.inside.topology.topology c.self.inside.servers.items c.self.inside.gossip c.self.inside.standing c.self.inside.last c.self.inside.stopped c.args.host kept ready.runs
+    (subst (λ (p : Point). AtServer p.state c.args.host (λ s. (began : ℕ) × Runs began s)) (sym point) runs) in
+    let d : IsDriven r c.reserve.new.self.lines c.self.inside.servers.items c.args.host c.in-Some-Some.stream c.in-Some-Some.began =
+    IsDriven-of r c.reserve.new.self.lines c.self.inside.servers.items c.args.host c.in-Some-Some.stream c.in-Some-Some.began c.index-server.result.now running c.index-server.ensures
+    (sym c.check_stream.ensures ∙ c.in-Some-Some.is-0) (sym c.began.ensures.value ∙ c.in-Some-Some.is-1) in
+    let ends = rw c.in-Ok-Some.field-0-is at c.in-Ok-Some.ensures.ends in
+    let adds = c.append.ensures.adds (fact.CheckEnded c.args.host c.in-Ok-Some.end.how) refl in
+    let is : c.index-server.result.now ≡ d.server = read-there c.self.inside.servers.items c.args.host d.server c.index-server.result.now d.there c.index-server.ensures in
+    let host : c.host.result.now ≡ d.server.address = c.host.ensures ∙ ap (λ (s : ServerState). s.address) is in
+    let before : Recorded = c.drive.new.wired.trail in
+    let at : slice_get before.point.state.servers c.args.host ≡ Some d.server = ap (λ (t : Recorded). slice_get t.point.state.servers c.args.host) c.drive.ensures.trail ∙ d.at_point in
+    let after = c.in_ok-follow_end-in-Ok-Some.ensures in
+    rw (← c.self.view_is)
+    (subst (λ (p : Point). HasEnded p.state c.follow_end.new.self.trail.point.state c.args.moment c.args.host) (ap (λ (t : Recorded). t.point) c.drive.ensures.trail ∙ point)
+    (HasEnded-driven before.point.state c.append.new.self.trail.point.state c.follow_end.new.self.trail.point.state c.host.result.now c.in-Some-Some.began c.limit_of-limit.result
+    c.args.moment c.args.host ends.0 c.in-Ok-Some.end.event c.in-Ok-Some.end.how d.server at d.runs ((kept.leads ready.runs).kept c.args.host d.server d.there).paced
+    (at-ended before c.append.new.self.trail c.args.moment c.args.host c.in-Ok-Some.end.how d.server (entry_of.CheckEnded c.args.host c.in-Ok-Some.end.how) adds at) host ends.1
+    after.checks (asks_of-by c.host.result.now c.in-Some-Some.began c.limit_of-limit.result c.args.moment ends.0 c.in-Ok-Some.end.event c.in-Ok-Some.end.how ends.1)
+    (λ broke. after.unknown d.server.address broke)))

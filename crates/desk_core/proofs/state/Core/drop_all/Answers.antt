@@ -23,7 +23,7 @@ drop_at-requires g c =
 pub loop-host-preserved : goal.loop-host-preserved
 loop-host-preserved g c = (
   AreDropped-next c.args.moment c.args.self.now c.loop-host.self c.drop_at.new.self c.args.hosts.now c.loop-host.host-index c.host-item.result c.requires.differ
-      c.loop-host.invariant.0 c.loop-host-test.true c.host-item.is c.drop_at.ensures.writing c.drop_at.ensures.others c.drop_at.ensures.names c.drop_at.ensures.appends,
+      c.loop-host.invariant.0 c.loop-host-test.true c.host-item.is c.drop_at.ensures.writing c.drop_at.ensures.others c.drop_at.ensures.checks c.drop_at.ensures.names c.drop_at.ensures.appends,
   omega (arith, c.loop-host.invariant.1, c.drop_at.ensures.faults),
 )
 
@@ -43,3 +43,6 @@ returns-clause-appends g c = c.loop-host.invariant.0.appends
 
 pub returns-clause-faults : goal.returns-clause-faults
 returns-clause-faults g c = c.loop-host.invariant.1
+
+pub returns-clause-checks : goal.returns-clause-checks
+returns-clause-checks g c = c.loop-host.invariant.0.checks

@@ -13,6 +13,7 @@ use Rattle.legal_trail.specs.Recorded.{Recorded}
 use Rattle.desk_core.specs.Appends.{Appends}
 use Rattle.desk_core.proofs.AppendsLemmas.{Appends-adds, Appends-trans, AreLonger-refl}
 use Rattle.desk_core.proofs.DropLemmas.{Drops, Drops-by, IsKept-dropped, IsStanding-of, IsThere-checked, IsUntouched-dropped, KeepsOthers-closing, Leaves-by, StandsAt-dropped, StandsAt-shut, dropped, read-there, same-closing, standing-dropped}
+use Rattle.desk_core.proofs.RestLemmas.{KeepsChecks-dropped}
 use Rattle.desk_core.proofs.state.Core.drop_server.Goals as goal
 
 pub append-requires-clause-stands : goal.append-requires-clause-stands
@@ -193,6 +194,23 @@ returns-clause-others g c =
     rw (← c.self.view_is)
     (λ s there a differ.
     IsUntouched-dropped c.self.inside.wired.trail c.close_where.new.wired.trail c.args.moment c.args.host h.server s a done h.at_point there differ)
+
+pub returns-clause-checks : goal.returns-clause-checks
+returns-clause-checks g c =
+    let w = rw (← c.self.view_is) at c.requires.writing in
+    let stays = rw (← c.self.view_is) at c.requires.stays in
+    let h =
+    IsStanding-of c.self.inside.wired.trail c.self.inside.wired.lines c.self.inside.topology.topology c.self.inside.servers.items c.self.inside.gossip c.self.inside.standing
+    c.self.inside.last c.self.inside.stopped c.args.host c.self.invariant w.2.runs stays in
+    let first =
+    Leaves-by c.self.inside.wired.trail c.append.new.self.trail c.args.moment c.args.host h.server (entry_of.Dropped c.args.host) h.at_point
+    (c.append.ensures.adds (fact.Dropped c.args.host) refl) in
+    let both =
+    Drops-by c.self.inside.wired.trail c.append.new.self.trail c.append-2.new.self.trail c.args.moment c.args.host h.server (entry_of.PoolShut c.args.host) h.at_point h.kept.paid
+    h.kept.none first (c.append-2.ensures.adds (fact.PoolShut c.args.host) refl) in
+    let done : Drops c.self.inside.wired.trail c.close_where.new.wired.trail c.args.moment c.args.host h.server =
+    subst (λ (t : Recorded). Drops c.self.inside.wired.trail t c.args.moment c.args.host h.server) (sym c.close_where.ensures.trail) both in
+    rw (← c.self.view_is) (KeepsChecks-dropped c.self.inside.wired.trail c.close_where.new.wired.trail c.args.moment c.args.host h.server done h.at_point)
 
 pub returns-clause-names : goal.returns-clause-names
 returns-clause-names g c =

@@ -1,4 +1,4 @@
-use Rattle.std.proofs.Common.{◌≡◌, ◌+◌, ◌++◌, [], length, None, Some, refl, sym, ap, ◌∙◌, subst, arith}
+use Rattle.std.proofs.Common.{◌≡◌, ◌+◌, ◌++◌, Bool, [], length, None, Some, refl, sym, ap, ◌∙◌, subst, arith}
 use Rattle.std.specs.Prelude.{drop, slice_get}
 use Rattle.std.proofs.lemmas.List.{length-map}
 use Rattle.std.proofs.lemmas.Option.{slice_get_within}
@@ -9,11 +9,13 @@ use Rattle.desk_trail.specs.declared.entry.CheckHow.{CheckHow}
 use Rattle.desk_trail.specs.declared.entry.CheckHow.TheVariants as how_of
 use Rattle.desk_trail.specs.declared.entry.Entry.TheVariants as entry_of
 use Rattle.desk_trail.specs.declared.room.Room.{Room}
-use Rattle.desk_trail.specs.Checks.{AtServer, MayCheckEnd, check_ends, kept_stream, offered_of}
+use Rattle.watch_step.specs.Ends.{is_again}
+use Rattle.desk_trail.specs.Checks.{AtServer, MayCheckEnd, check_ends, end_of, kept_stream, offered_of}
 use Rattle.desk_trail.specs.Facts.{Lists}
 use Rattle.desk_trail.specs.Facts as fact
 use Rattle.desk_trail.specs.Legal.{Point}
 use Rattle.desk_trail.specs.States.{ClientState, ServerState}
+use Rattle.desk_trail.specs.Topologies.{asks_of, offered_after}
 use Rattle.desk_trail.specs.Written.{IsAtLeast, an_entry}
 use Rattle.legal_trail.specs.Recorded.{Recorded}
 use Rattle.desk_core.proofs.AppendsLemmas.{Appends-adds, Appends-quiet, Appends-refl, Appends-room, Appends-trans, AreLonger-refl}
@@ -21,6 +23,7 @@ use Rattle.desk_core.proofs.CheckLemmas.{IsKept-ended, IsOwedBy-broken, StandsAt
 use Rattle.desk_core.proofs.DropLemmas.{read-there}
 use Rattle.desk_core.proofs.KeptLemmas.{IsKept-room}
 use Rattle.desk_core.proofs.OfferLemmas.{OnOk-by}
+use Rattle.desk_core.proofs.RestLemmas.{IsAtRest-ended, at-ended, offered-servers}
 use Rattle.desk_core.proofs.state.Core.end_undialled.Goals as goal
 
 pub returns-in_err-end-clause-appends : goal.returns-in_err-end-clause-appends
@@ -213,3 +216,24 @@ returns-clause-appends g c =
     (Appends-adds an_entry r.lists c.args.moment (entry_of.CheckEnded c.args.host k) (fact.CheckEnded c.args.host k) r between (AreLonger-refl r.lists)
     (c.append.ensures.adds (fact.CheckEnded c.args.host k) refl) (λ e. tt))
     (Appends-quiet c.args.moment between c.offer.new.self.trail c.offer.ensures.appends)))
+
+pub returns-clause-rests : goal.returns-clause-rests
+returns-clause-rests g c =
+    let ready = rw (← c.self.view_is) at c.requires.ready in
+    let due = rw (← c.self.view_is) at c.requires.due in
+    let h = c.self.invariant.leads ready.runs in
+    let r : Recorded = c.reserve.new.self.trail in
+    let k : CheckHow = c.in_ok-end.end.how in
+    let how : k ≡ how_of.NoDial = ap (λ e. e.how) c.in_ok-end.ensures in
+    let point : r.point ≡ c.self.inside.wired.trail.point = ap (λ s. s.trail.point) c.reserve.ensures.same in
+    let there : slice_get c.self.inside.servers.items c.args.host ≡ Some due.0 = ap (λ (s : ClientState). slice_get s.servers c.args.host) (sym h.state) ∙ due.1 in
+    let between : ClientState = c.append.new.self.trail.point.state in
+    let known : Bool = stands_known r.point.state.topology due.0.address in
+    let behind : slice_get between.servers c.args.host ≡ Some (check_ends c.args.moment k known due.0) =
+    at-ended r c.append.new.self.trail c.args.moment c.args.host k due.0 (entry_of.CheckEnded c.args.host k) (c.append.ensures.adds (fact.CheckEnded c.args.host k) refl)
+    (ap (λ (p : Point). slice_get p.state.servers c.args.host) point ∙ due.1) in
+    let plain : asks_of c.in_ok-end.end.event ≡ None = ap (λ e. asks_of e.event) c.in_ok-end.ensures in
+    OnOk-by c.offer.result _ _ (λ kept.
+    IsAtRest-ended (offered_after c.args.moment c.in_ok-end.end.event between) c.offer.new.self.trail.point.state c.args.moment c.args.host k known due.0
+    (ap (λ ss. slice_get ss c.args.host) (offered-servers c.args.moment c.in_ok-end.end.event between plain) ∙ behind) (h.kept c.args.host due.0 there).paced
+    (ap (λ j. is_again (end_of j) known) how) kept) c.offer.ensures.checks

@@ -7,6 +7,7 @@ use Rattle.desk_trail.specs.Topologies.{cleared}
 use Rattle.desk_core.specs.Kept.{IsWriting}
 use Rattle.desk_core.proofs.AppendsLemmas.{Appends-trans}
 use Rattle.desk_core.proofs.FollowLemmas.{IsDropped, IsNamed, IsReadied, clears-next, drops-next, moved, readies-next}
+use Rattle.desk_core.proofs.RestLemmas.{KeepsChecks-trans}
 use Rattle.desk_core.proofs.state.Core.follow.Goals as goal
 
 pub drop_all-requires-clause-writing : goal.drop_all-requires-clause-writing
@@ -70,3 +71,8 @@ pub returns-clause-appends : goal.returns-clause-appends
 returns-clause-appends g c =
     Appends-trans _ _ _ _ c.in_ok-name_all.ensures.appends
     (Appends-trans _ _ _ _ c.drop_all.ensures.appends (Appends-trans _ _ _ _ c.ready_some.ensures.appends c.clear_some.ensures.appends))
+
+pub returns-clause-checks : goal.returns-clause-checks
+returns-clause-checks g c =
+    KeepsChecks-trans _ _ _ c.in_ok-name_all.ensures.checks
+    (KeepsChecks-trans _ _ _ c.drop_all.ensures.checks (KeepsChecks-trans _ _ _ c.ready_some.ensures.checks c.clear_some.ensures.checks))

@@ -1,4 +1,8 @@
-use Rattle.std.proofs.Common.{◌∷◌, []}
+use Rattle.std.proofs.Common.{◌∷◌, [], subst}
+use Rattle.std.specs.Prelude.{OnOk}
+use Rattle.desk_trail.specs.States.{ClientState}
+use Rattle.desk_trail.specs.Topologies.{offered_after}
+use Rattle.desk_core.specs.Rests.{KeepsChecks}
 use Rattle.desk_core.proofs.AppendsLemmas.{Appends-trans}
 use Rattle.desk_core.proofs.OfferLemmas.{OnOk-by}
 use Rattle.desk_core.proofs.state.Core.follow_end.Goals as goal
@@ -21,3 +25,8 @@ returns-clause-ok g c =
 pub returns-clause-appends : goal.returns-clause-appends
 returns-clause-appends g c =
     Appends-trans c.args.moment c.args.self.now.trail c.hear_time.new.self.trail c.offer.new.self.trail c.hear_time.ensures.appends c.offer.ensures.appends
+
+pub returns-clause-checks : goal.returns-clause-checks
+returns-clause-checks g c =
+    subst (λ (w : ClientState). OnOk c.offer.result (KeepsChecks (offered_after c.args.moment c.args.event w) c.offer.new.self.trail.point.state)) c.hear_time.ensures.servers
+    c.offer.ensures.checks

@@ -6,6 +6,7 @@ use Rattle.desk_trail.specs.States.{fresh_server}
 use Rattle.legal_trail.specs.Recorded.{Recorded}
 use Rattle.desk_core.proofs.AppendsLemmas.{Appends-room}
 use Rattle.desk_core.proofs.KeptLemmas.{IsKept-named, IsKept-room}
+use Rattle.desk_core.proofs.RestLemmas.{KeepsChecks-append}
 use Rattle.desk_core.proofs.ServerLemmas.{IsUntouched-append, standing_within}
 use Rattle.desk_core.proofs.state.Core.name.Goals as goal
 
@@ -59,7 +60,7 @@ invariant_of-self-2 g c =
     let used = c.name-2.ensures.adds.room_used.steps in
     IsKept-named old c.name-2.new.self.trail c.reserve.new.self.lines c.name-2.new.self.lines c.self.inside.topology.topology c.self.inside.servers.items
     c.push_reserved.new.self.items c.self.inside.gossip c.self.inside.standing c.self.inside.last c.args.moment (length old.lists.names) c.self.inside.stopped c.in_ok-name.server
-    c.in_ok-name.name (entry_of.Named (length old.lists.names)) c.name-2.ensures.adds few w.2.now (omega arith) (ap (λ s. s.lines) c.name-2.ensures.same) fresh pushed reserved
+    c.in_ok-name.name (entry_of.Named (length old.lists.names)) c.name-2.ensures.adds few w.2.now (omega arith) (ap (λ s. s.lines) c.name-2.ensures.same) fresh c.in_ok-name.ensures.paced pushed reserved
 
 pub returns-clause-others : goal.returns-clause-others
 returns-clause-others g c = λ a differ.
@@ -70,3 +71,13 @@ returns-clause-others g c = λ a differ.
     ap (λ (p : Point). p.state.servers) adds.point_now ∙ ap (λ (p : Point). p.state.servers ++ fresh_server old.client c.args.moment c.in_ok-name.name ∷ []) before in
     IsUntouched-append c.args.self.now.trail.point.state c.name-2.new.self.trail.point.state (fresh_server old.client c.args.moment c.in_ok-name.name) a now
     (ap (λ h. is_same_address h a) c.in_ok-name.ensures.name ∙ differ)
+
+pub returns-clause-checks : goal.returns-clause-checks
+returns-clause-checks g c =
+    let old : Recorded = c.reserve.new.self.trail in
+    let adds = c.name-2.ensures.adds in
+    let before : old.point ≡ c.args.self.now.trail.point = rw (← c.self.view_is) (ap (λ s. s.trail.point) c.reserve.ensures.same) in
+    let now : c.name-2.new.self.trail.point.state.servers ≡ c.args.self.now.trail.point.state.servers ++ fresh_server old.client c.args.moment c.in_ok-name.name ∷ [] =
+    ap (λ (p : Point). p.state.servers) adds.point_now ∙ ap (λ (p : Point). p.state.servers ++ fresh_server old.client c.args.moment c.in_ok-name.name ∷ []) before in
+    KeepsChecks-append c.args.self.now.trail.point.state c.name-2.new.self.trail.point.state (fresh_server old.client c.args.moment c.in_ok-name.name)
+    (ap (λ (p : Point). p.state.topology) adds.point_now ∙ ap (λ (p : Point). p.state.topology) before) now

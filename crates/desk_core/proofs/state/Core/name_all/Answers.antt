@@ -33,7 +33,7 @@ returns-in_err-name-clause-appends g c =
 pub loop-host-preserved : goal.loop-host-preserved
 loop-host-preserved g c = (
   AreNamed-next c.args.moment c.args.self.now c.loop-host.self c.name.new.self c.args.hosts.now c.loop-host.host-index c.host-item.result c.loop-host.invariant.0 c.loop-host-test.true
-      c.host-item.is c.in_ok-name.ensures.ok c.in_ok-name.ensures.others c.in_ok-name.ensures.names c.in_ok-name.ensures.appends,
+      c.host-item.is c.in_ok-name.ensures.ok c.in_ok-name.ensures.others c.in_ok-name.ensures.checks c.in_ok-name.ensures.names c.in_ok-name.ensures.appends,
   c.in_ok-name.ensures.net ∙ c.loop-host.invariant.1,
   c.in_ok-name.ensures.lines ∙ c.loop-host.invariant.2,
 )
@@ -64,3 +64,6 @@ returns-clause-net g c = c.loop-host.invariant.1
 
 pub returns-clause-lines : goal.returns-clause-lines
 returns-clause-lines g c = c.loop-host.invariant.2
+
+pub returns-clause-checks : goal.returns-clause-checks
+returns-clause-checks g c = c.loop-host.invariant.0.checks

@@ -1,22 +1,27 @@
-use Rattle.std.proofs.Common.{◌≡◌, ◌≤◌, ◌+◌, ◌++◌, ◌∷◌, [], true, false, length, refl, sym, ap, ◌∙◌, arith}
+use Rattle.std.proofs.Common.{◌≡◌, ◌≤◌, ◌+◌, ◌++◌, ◌∷◌, [], true, false, length, refl, sym, ap, ◌∙◌, subst, arith}
 use Rattle.std.specs.FinMap as map
 use Rattle.std.proofs.lemmas.List.{length-append}
 use Rattle.topo_rules.specs.Changes.{IsChange, stands}
 use Rattle.topo_rules.specs.Laws.{listed_by}
+use Rattle.topo_rules.specs.declared.topology.Topology.{Topology}
 use Rattle.topo_rules.specs.Rules as rules
 use Rattle.topo_rules.specs.Rules.{event_host}
 use Rattle.topo_book.specs.Fresh.{is_accepted_verdict}
+use Rattle.topo_book.specs.Means.{stands_known}
 use Rattle.topo_book.specs.Offers.{verdict_of}
 use Rattle.topo_book.specs.declared.taken.Taken.TheVariants as answer
 use Rattle.desk_trail.specs.States.{ClientState}
-use Rattle.desk_trail.specs.Topologies.{generation_in, server_with, verdict_on}
+use Rattle.desk_trail.specs.Legal.{Point}
+use Rattle.desk_trail.specs.Topologies.{generation_in, offered_after, server_with, verdict_on}
 use Rattle.desk_trail.specs.Written.{an_event}
 use Rattle.desk_core.specs.Answered.{added_by, removed_by}
 use Rattle.desk_core.specs.Follows.{entries_for, owed_by}
+use Rattle.desk_core.specs.Rests.{KeepsChecks}
 use Rattle.desk_core.proofs.ApartLemmas.{AreApart-change, accepted-stands}
 use Rattle.desk_core.proofs.AppendsLemmas.{Appends-adds, Appends-refl, Appends-room, Appends-trans, AreLonger-events}
 use Rattle.desk_core.proofs.KeptLemmas.{IsKept-room}
 use Rattle.desk_core.proofs.OfferLemmas.{IsKept-offered, IsWriting-after, OnOk-by, accepted-owes, change-is, servers-offered, topology-is, verdict-is}
+use Rattle.desk_core.proofs.RestLemmas.{KeepsChecks-same, broken-unknown}
 use Rattle.desk_core.proofs.state.Core.offer.Goals as goal
 
 pub returns-in_err-taken-clause-appends : goal.returns-in_err-taken-clause-appends
@@ -161,3 +166,39 @@ returns-in-Accepted-clause-appends g c =
     (Appends-trans c.args.moment c.reserve.new.self.trail c.offer-2.new.self.trail c.follow.new.self.trail
     (Appends-adds _ _ c.args.moment _ _ c.reserve.new.self.trail c.offer-2.new.self.trail (AreLonger-events _ (c.args.event ∷ [])) c.offer-2.ensures.adds (λ e. absurd (cc)))
     c.follow.ensures.appends))
+
+pub returns-in-Accepted-clause-checks : goal.returns-in-Accepted-clause-checks
+returns-in-Accepted-clause-checks g c =
+    let r = c.reserve.new.self.trail in
+    let states : c.args.self.now.trail.point.state ≡ r.point.state = ap (λ d. d.trail.point.state) (sym c.self.view_is) ∙ sym (ap (λ s. s.trail.point.state) c.reserve.ensures.same) in
+    let now : c.offer-2.new.self.trail.point.state ≡ offered_after c.args.moment c.args.event c.args.self.now.trail.point.state =
+    ap (λ (p : Point). p.state) c.offer-2.ensures.adds.point_now ∙ ap (offered_after c.args.moment c.args.event) (sym states) in
+    OnOk-by c.follow.result _ _ (λ k. subst (λ w. KeepsChecks w c.follow.new.self.trail.point.state) now k) c.follow.ensures.checks
+
+pub returns-in-Accepted-clause-unknown : goal.returns-in-Accepted-clause-unknown
+returns-in-Accepted-clause-unknown g c =
+    let r = c.reserve.new.self.trail in
+    let states : c.args.self.now.trail.point.state ≡ r.point.state = ap (λ d. d.trail.point.state) (sym c.self.view_is) ∙ sym (ap (λ s. s.trail.point.state) c.reserve.ensures.same) in
+    let now : c.offer-2.new.self.trail.point.state ≡ offered_after c.args.moment c.args.event c.args.self.now.trail.point.state =
+    ap (λ (p : Point). p.state) c.offer-2.ensures.adds.point_now ∙ ap (offered_after c.args.moment c.args.event) (sym states) in
+    OnOk-by c.follow.result _ _ (λ (k : KeepsChecks c.offer-2.new.self.trail.point.state c.follow.new.self.trail.point.state). λ host is.
+    ap (λ (t : Topology). stands_known t host) (k.topology ∙ ap (λ (w : ClientState). w.topology) now)
+    ∙ broken-unknown c.args.self.now.trail.point.state c.args.event host is c.nothing_else_stands.ensures) c.follow.ensures.checks
+
+pub returns-in_default-taken-clause-checks : goal.returns-in_default-taken-clause-checks
+returns-in_default-taken-clause-checks g c =
+    let r = c.reserve.new.self.trail in
+    let states : c.args.self.now.trail.point.state ≡ r.point.state = ap (λ d. d.trail.point.state) (sym c.self.view_is) ∙ sym (ap (λ s. s.trail.point.state) c.reserve.ensures.same) in
+    let now : c.offer-2.new.self.trail.point.state ≡ offered_after c.args.moment c.args.event c.args.self.now.trail.point.state =
+    ap (λ (p : Point). p.state) c.offer-2.ensures.adds.point_now ∙ ap (offered_after c.args.moment c.args.event) (sym states) in
+    KeepsChecks-same (offered_after c.args.moment c.args.event c.args.self.now.trail.point.state) c.offer-2.new.self.trail.point.state
+    (ap (λ (w : ClientState). w.topology) now) (ap (λ (w : ClientState). w.servers) now)
+
+pub returns-in_default-taken-clause-unknown : goal.returns-in_default-taken-clause-unknown
+returns-in_default-taken-clause-unknown g c = λ host is.
+    let r = c.reserve.new.self.trail in
+    let states : c.args.self.now.trail.point.state ≡ r.point.state = ap (λ d. d.trail.point.state) (sym c.self.view_is) ∙ sym (ap (λ s. s.trail.point.state) c.reserve.ensures.same) in
+    let now : c.offer-2.new.self.trail.point.state ≡ offered_after c.args.moment c.args.event c.args.self.now.trail.point.state =
+    ap (λ (p : Point). p.state) c.offer-2.ensures.adds.point_now ∙ ap (offered_after c.args.moment c.args.event) (sym states) in
+    ap (λ (w : ClientState). stands_known w.topology host) now
+    ∙ broken-unknown c.args.self.now.trail.point.state c.args.event host is c.nothing_else_stands.ensures

@@ -6,6 +6,7 @@ use Rattle.desk_trail.specs.Facts as fact
 use Rattle.desk_trail.specs.Pools.{with_pool}
 use Rattle.desk_core.proofs.AppendsLemmas.{Appends-adds, AreLonger-refl}
 use Rattle.desk_core.proofs.PoolLemmas.{Changes-ready, IsKept-changed, IsKeptServer-ready, IsWriting-next, StandsAt-ready, number_of-changed, at-servers, paused-there}
+use Rattle.desk_core.proofs.RestLemmas.{KeepsChecks-changed}
 use Rattle.desk_core.proofs.state.Core.ready_pool.Goals as goal
 
 pub append-requires-clause-stands : goal.append-requires-clause-stands
@@ -68,3 +69,12 @@ returns-clause-names g c = rw (← c.self.view_is) (ap (λ x. x.names) (c.append
 
 pub returns-clause-appends : goal.returns-clause-appends
 returns-clause-appends g c = rw (← c.self.view_is) (Appends-adds _ _ _ _ _ _ _ (AreLonger-refl _) (c.append.ensures.adds (fact.PoolReady c.args.host) refl) (λ e. absurd (cc)))
+
+pub returns-clause-checks : goal.returns-clause-checks
+returns-clause-checks g c =
+    let w = rw (← c.self.view_is) at c.requires.writing in
+    let l = c.self.invariant.leads w.2.runs in
+    let p = paused-there _ (rw (← c.self.view_is) at c.requires.paused) in
+    let there : slice_get c.self.inside.servers.items c.args.host ≡ Some p.0 = at-servers _ _ _ _ _ _ c.args.host p.0 l p.1 in
+    rw (← c.self.view_is)
+    (KeepsChecks-changed _ _ _ _ _ _ _ c.args.moment c.args.host _ _ _ p.0 l (c.append.ensures.adds (fact.PoolReady c.args.host) refl) (Changes-ready _ _ _) there refl)

@@ -1,0 +1,11 @@
+pub mod Bits
+pub mod Counts
+mod Elections
+pub mod Growth
+pub mod MarkLemmas
+mod OneWrite
+pub mod PlaceLemmas
+pub mod Runs
+pub mod Sounds
+pub mod Stands
+pub mod Steps

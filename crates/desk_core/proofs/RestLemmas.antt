@@ -20,17 +20,17 @@ use Rattle.desk_wire.specs.declared.answers.Pulled.{Pulled}
 use Rattle.desk_trail.specs.declared.entry.CheckHow.{CheckHow}
 use Rattle.desk_trail.specs.declared.entry.CheckHow.TheVariants as how
 use Rattle.desk_trail.specs.declared.entry.Entry.{Entry}
-use Rattle.desk_trail.specs.Checks.{AtServer, IsDue, Runs, check_begins, check_ends, end_of, is_known_at, is_known_by}
+use Rattle.desk_trail.specs.Checks.{AtServer, IsDue, Runs, check_ends, end_of, is_known_at, is_known_by}
 use Rattle.desk_trail.specs.Facts.{Fact}
 use Rattle.desk_trail.specs.Facts as fact
 use Rattle.desk_trail.specs.States.{ClientState, ServerState}
-use Rattle.desk_trail.specs.Topologies.{asks_of, generation_for, offered_after, topology_after, verdict_on}
+use Rattle.desk_trail.specs.Topologies.{asks_of, generation_for, offered_after, topology_after}
 use Rattle.desk_trail.specs.Written.{an_entry}
 use Rattle.legal_trail.specs.Recorded.{Adds, Recorded}
 use Rattle.wired_trail.specs.Lines.{Lines}
 use Rattle.desk_core.specs.Ends.{IsEndBy}
 use Rattle.desk_core.specs.Kept.{LeadsTo}
-use Rattle.desk_core.specs.Rests.{HasBegun, HasEnded, HasSameChecks, IsAtRestOrUnknown, KeepsChecks}
+use Rattle.desk_core.specs.Rests.{HasBegun, HasEnded, HasSameChecks, KeepsChecks}
 use Rattle.desk_core.specs.Sights.{IsAtRest}
 use Rattle.desk_core.proofs.CheckLemmas as check
 use Rattle.desk_core.proofs.DropLemmas.{Drops, dropped}
@@ -239,21 +239,6 @@ HasEnded-driven u w v host began limit moment k answer offered h s there runs pa
     }
 
 -- ---- One step of a check
-
--- behind the two entries with which a check begins
-pub HasBegun-by : (old new : Recorded) (moment k stream : ℕ) (s : ServerState) → check.Changes old new k (check_begins moment stream s) →
-    slice_get old.point.state.servers k ≡ Some s → s.has_left ≡ false → HasBegun old.point.state new.point.state k
-HasBegun-by old new moment k stream s c there stays =
-    let w : ClientState = old.point.state in
-    let v : ClientState = new.point.state in
-    let t : ServerState = check_begins moment stream s in
-    let here : slice_get v.servers k ≡ Some t = ap (λ (u : ClientState). slice_get u.servers k) c.state ∙ slice_get-set_same w.servers k t s there in
-    record {
-      runs = (t, here, (moment, record { stays = stays; since = refl }));
-      known =
-          ap (is_known_by v) here ∙ ap (λ (y : Topology). stands_known y s.address) (ap (λ (u : ClientState). u.topology) c.state)
-          ∙ sym (ap (is_known_by w) there);
-    }
 
 began-or-not : (o : Option ℕ) → (o ≡ None) ⊎ ((began : ℕ) × (o ≡ Some began))
 began-or-not None = inl refl

@@ -1,5 +1,5 @@
 -- What a step of a check began, and what it answers.
-use Rattle.std.proofs.Common.{◌≡◌, ℕ, false, List, Option, None, Some, refl, sym, ap, ◌∙◌}
+use Rattle.std.proofs.Common.{◌≡◌, ℕ, false, List, Option, None, Some, sym, ap, ◌∙◌}
 use Rattle.std.specs.Prelude.{IfNone, IfOk, slice_get, slice_set}
 use Rattle.std.specs.declared.result.Result.{Result}
 use Rattle.std.specs.declared.result.Result.TheVariants.{Ok, Err}

@@ -1,4 +1,4 @@
-ghost use Rattle.std.specs.Prelude.{◌≡◌, ◌≤◌, ◌+◌, ◌++◌, ◌∷◌, ℕ, List, Some, IfNone, IfSome, false, filter_map, length, map, option_to_list, slice_get};
+ghost use Rattle.std.specs.Prelude.{◌≡◌, ◌≤◌, ◌+◌, ◌++◌, ◌∷◌, ℕ, List, None, Some, IfNone, IfSome, false, filter_map, length, map, option_to_list, slice_get};
 ghost use Rattle.std.specs.List.{IsDistinct, list_any};
 ghost use Rattle.host_name.specs.Addresses.{Address, is_same_address};
 ghost use Rattle.desk_trail.specs.Owed.{Owed};
@@ -8,7 +8,7 @@ ghost use Rattle.desk_core.specs.Appends.{Appends};
 ghost use Rattle.desk_core.specs.Kept.{IsWriting};
 ghost use Rattle.desk_core.specs.Rests.{KeepsChecks};
 ghost use Rattle.desk_core.specs.Servers.{IsUntouched, TouchesOnly};
-ghost use Rattle.wired_trail.specs.Lines.{IsThere, KeepsOthers};
+ghost use Rattle.wired_trail.specs.Lines.{IsThere, KeepsOthers, line_at};
 
 use crate::state::Core;
 use desk_trail::Entry;
@@ -21,6 +21,7 @@ fn close_where<N: Net>(wired: &mut WiredTrail<N>, stream: Option<u64>)
     requires { IfSome stream (λ s. IsThere wired.old.lines s) }
     ensures trail { wired.new.trail ≡ wired.old.trail }
     ensures others { IfSome stream (λ s. KeepsOthers s wired.old.lines wired.new.lines) }
+    ensures gone { IfSome stream (λ s. line_at wired.new.lines s ≡ None) }
     ensures none { IfNone stream (wired.new.lines ≡ wired.old.lines) }
     ensures faults { N.faults wired.old.net ≤ N.faults wired.new.net }
 {
@@ -30,14 +31,16 @@ fn close_where<N: Net>(wired: &mut WiredTrail<N>, stream: Option<u64>)
 }
 
 impl<N: Net> Core<N> {
-    /// A server leaves the topology: a check of it that runs ends, and its pool is closed (SDAM, Updating the
-    /// TopologyDescription).
+    /// A server leaves the topology: a check of it that runs ends, the stream of its checks is closed, and its pool is closed
+    /// (SDAM, Updating the TopologyDescription).
     pub fn drop_server(&mut self, moment: u64, host: u32)
         requires writing { (rest : List Owed) × (n : ℕ) × IsWriting self.old moment (n + 1) (owed.Dropped host ∷ rest) }
         requires stays { Stays self.old.trail.point.state host }
         ensures writing { (rest : List Owed) (n : ℕ) → IsWriting self.old moment (n + 1) (owed.Dropped host ∷ rest) → IsWriting self.new moment n rest }
         ensures others { (s : ServerState) → slice_get self.old.trail.point.state.servers host ≡ Some s
             → TouchesOnly s.address self.old.trail.point.state self.new.trail.point.state }
+        ensures closed { (s : ServerState) → slice_get self.old.trail.point.state.servers host ≡ Some s
+            → IfSome s.check_stream (λ stream. line_at self.new.lines stream ≡ None) }
         ensures checks { KeepsChecks self.old.trail.point.state self.new.trail.point.state }
         ensures names { self.new.trail.lists.names ≡ self.old.trail.lists.names }
         ensures faults { N.faults self.old.net ≤ N.faults self.new.net }

@@ -1,5 +1,5 @@
-use Rattle.std.proofs.Common.{◌≡◌, ◌≢◌, ◌∷◌, [], length, Some, refl, sym, ap, ◌∙◌, subst, arith, not, ◌+◌}
-use Rattle.std.specs.Prelude.{drop, is_some, slice_get}
+use Rattle.std.proofs.Common.{◌≡◌, ◌∷◌, [], length, Some, refl, sym, ap, ◌∙◌, subst, arith, ◌+◌}
+use Rattle.std.specs.Prelude.{drop, slice_get}
 use Rattle.std.specs.Option.{option_map}
 use Rattle.std.proofs.lemmas.Option.{slice_get_within}
 use Rattle.desk_trail.specs.declared.entry.Entry.TheVariants as entry_of
@@ -19,7 +19,7 @@ use Rattle.desk_core.specs.Rests.{HasBegun}
 use Rattle.desk_core.proofs.AppendsLemmas.{Appends-adds, Appends-room, Appends-trans, AreLonger-refl, AreLonger-requests}
 use Rattle.desk_core.proofs.CheckLemmas.{Begins, IsBegun, IsBegun-by, IsKept-begun, StandsAt-began, StandsAt-hello}
 use Rattle.desk_core.proofs.DropLemmas.{read-there}
-use Rattle.desk_core.proofs.KeptLemmas.{IsKept-room, servers-of}
+use Rattle.desk_core.proofs.KeptLemmas.{IsKept-room}
 use Rattle.desk_core.proofs.SightLemmas.{HasBegun-led}
 use Rattle.desk_core.proofs.state.Core.begin_on.Goals as goal
 

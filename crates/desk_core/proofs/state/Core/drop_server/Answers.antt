@@ -1,4 +1,5 @@
-use Rattle.std.proofs.Common.{◌≡◌, refl, sym, ap, ◌∙◌, subst, arith}
+use Rattle.std.proofs.Common.{◌≡◌, ℕ, Option, None, Some, refl, sym, ap, ◌∙◌, subst, arith}
+use Rattle.std.specs.Prelude.{IfSome}
 use Rattle.std.proofs.lemmas.Option.{slice_get_within}
 use Rattle.pool_book.specs.Entries as pool
 use Rattle.pool_book.specs.Pool.{is_closed}
@@ -10,6 +11,7 @@ use Rattle.desk_trail.specs.Pools.{with_pool}
 use Rattle.desk_trail.specs.States.{ServerState}
 use Rattle.desk_trail.specs.Written.{an_entry}
 use Rattle.legal_trail.specs.Recorded.{Recorded}
+use Rattle.wired_trail.specs.Lines.{line_at}
 use Rattle.desk_core.specs.Appends.{Appends}
 use Rattle.desk_core.proofs.AppendsLemmas.{Appends-adds, Appends-trans, AreLonger-refl}
 use Rattle.desk_core.proofs.DropLemmas.{Drops, Drops-by, IsKept-dropped, IsStanding-of, IsThere-checked, IsUntouched-dropped, KeepsOthers-closing, Leaves-by, StandsAt-dropped, StandsAt-shut, dropped, read-there, same-closing, standing-dropped}
@@ -194,6 +196,22 @@ returns-clause-others g c =
     rw (← c.self.view_is)
     (λ s there a differ.
     IsUntouched-dropped c.self.inside.wired.trail c.close_where.new.wired.trail c.args.moment c.args.host h.server s a done h.at_point there differ)
+
+pub returns-clause-closed : goal.returns-clause-closed
+returns-clause-closed g c =
+    let w = rw (← c.self.view_is) at c.requires.writing in
+    let stays = rw (← c.self.view_is) at c.requires.stays in
+    let h =
+    IsStanding-of c.self.inside.wired.trail c.self.inside.wired.lines c.self.inside.topology.topology c.self.inside.servers.items c.self.inside.gossip c.self.inside.standing
+    c.self.inside.last c.self.inside.stopped c.args.host c.self.invariant w.2.runs stays in
+    let is : c.index_mut-server.result.now ≡ h.server =
+    read-there c.self.inside.servers.items c.args.host h.server c.index_mut-server.result.now h.there c.index_mut-server.ensures.value in
+    let stream : c.check_stream.result ≡ h.server.check_stream = c.check_stream.ensures ∙ ap (λ (s : ServerState). s.check_stream) is in
+    rw (← c.self.view_is)
+    (λ s there.
+    let both : Some s ≡ Some h.server = sym there ∙ h.at_point in
+    let same : s ≡ h.server = (cc) in
+    subst (λ (o : Option ℕ). IfSome o (λ x. line_at c.close_where.new.wired.lines x ≡ None)) (stream ∙ sym (ap (λ (t : ServerState). t.check_stream) same)) c.close_where.ensures.gone)
 
 pub returns-clause-checks : goal.returns-clause-checks
 returns-clause-checks g c =

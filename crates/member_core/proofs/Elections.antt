@@ -1,5 +1,5 @@
 -- Elections worked out by hand: the rule of keys, and two others under which a write is done twice or is lost.
-use Rattle.std.proofs.Common.{◌≡◌, ℕ, Bool, true, not, ◌==◌, [], ◌∷◌, ◌++◌, refl}
+use Rattle.std.proofs.Common.{◌≡◌, ℕ, Bool, true, false, not, ◌==◌, List, [], ◌∷◌, ◌++◌, Some, map, refl}
 use Rattle.std.specs.Prelude.{◌&&◌, pos, filter}
 use Rattle.std.specs.List.{list_any}
 use Rattle.bson_doc.specs.declared.ids.Lsid.{Lsid}
@@ -7,6 +7,7 @@ use Rattle.net_link.specs.declared.event.Effect.TheVariants.{Added}
 use Rattle.member_core.specs.Honest.{Fits}
 use Rattle.member_core.specs.Keys.{same_key}
 use Rattle.member_core.specs.Logs.{World, elected, handled, put, start, times}
+use Rattle.member_core.specs.Members.{Kept, elected_log, entries, gained_from}
 use Rattle.member_core.specs.declared.key.Key.{Key}
 use Rattle.member_core.specs.declared.key.Key.TheVariants.{Numbered}
 use Rattle.member_core.specs.declared.log.LogEntry.{LogEntry}
@@ -58,3 +59,17 @@ elected_by_entries w m = record w {
 -- The write is done twice.
 twice_by_entries : times key ((elected_by_entries three 0).log 0) ≡ 2
 twice_by_entries = refl
+
+-- ---- the marks of a member's own entries
+
+-- An election that leaves them alone.
+abbrev elected_unmarked : List Kept → List Kept → List Kept
+elected_unmarked own last = own ++ map (λ entry. (entry, true)) (gained_from last (entries own))
+
+-- 0 added the write when it was deposed, 1 acknowledged it; 0 is elected and then 2, which has nothing. The write is lost.
+lost_by_own_marks : elected_unmarked [] (elected_unmarked ((first, false) ∷ []) ((again, true) ∷ [])) ≡ []
+lost_by_own_marks = refl
+
+-- By the rule it is kept.
+kept_by_all_marks : elected_log (Some (elected_log (Some ((again, true) ∷ [])) ((first, false) ∷ []))) [] ≡ (first, true) ∷ []
+kept_by_all_marks = refl

@@ -9,3 +9,4 @@ pub mod Runs
 pub mod Sounds
 pub mod Stands
 pub mod Steps
+mod Worked

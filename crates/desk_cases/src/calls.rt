@@ -15,15 +15,13 @@ use topo_rules::Topology;
 /// The most bytes of a connection string.
 const MOST: usize = 16_777_216;
 
-/// A client.
+/// A client: while it did not end, its core; behind its end, what it left. It opened with a topology.
 #[derive(Drop)]
-pub enum Client<N: Net> {
-    /// None was made.
-    None,
-    /// One that did not end, and the topology that it opened with.
-    Made(Desk<N>, Topology),
-    /// What one left that ended, the topology that it opened with, and whether it had stopped.
-    Ended(Trail, Topology, bool),
+pub struct Client<N: Net> {
+    desk: Option<Desk<N>>,
+    left: Option<Trail>,
+    opening: Option<Topology>,
+    stopped: bool,
 }
 
 /// The client of a connection string, made at a moment, over a net of these peers, who forget what they were told.
@@ -40,7 +38,12 @@ pub fn made<'a>(
     }
     let net = PeerNet::new(peers);
     match Desk::new(alloc, net, settings, Rows::new(alloc), moment) {
-        Ok(desk) => Ok(Client::Made(desk, opening)),
+        Ok(desk) => Ok(Client {
+            desk: Some(desk),
+            left: None,
+            opening: Some(opening),
+            stopped: false,
+        }),
         Err(_) => Err(CaseFault::Memory),
     }
 }
@@ -64,17 +67,27 @@ fn opening_of(alloc: Global, settings: &Settings) -> Result<Topology, CaseFault>
 }
 
 impl<N: Net + Drop> Client<N> {
+    /// None was made.
+    pub fn none() -> Client<N> {
+        Client {
+            desk: None,
+            left: None,
+            opening: None,
+            stopped: false,
+        }
+    }
+
     /// What it did; none where none was made.
     pub fn log(&self) -> Option<Log<'_>> {
-        match self {
-            Client::None => None,
-            Client::Made(desk, _) => Some(Log {
+        match (&self.desk, &self.left) {
+            (Some(desk), _) => Some(Log {
                 names: desk.names(),
                 events: desk.events(),
                 requests: desk.requests(),
                 steps: desk.steps(),
             }),
-            Client::Ended(trail, _, _) => Some(Log::of_trail(trail)),
+            (None, Some(trail)) => Some(Log::of_trail(trail)),
+            (None, None) => None,
         }
     }
 
@@ -89,7 +102,7 @@ impl<N: Net + Drop> Client<N> {
     /// Steps the check of a host, `NAME` for the last one of that name or `NAME/NUMBER`.
     pub fn check(&mut self, alloc: Global, word: &str, moment: u64) -> Result<Told, CaseFault> {
         let host = self.number_of(alloc, word)?;
-        let Client::Made(desk, _) = self else {
+        let Some(desk) = &mut self.desk else {
             return Err(CaseFault::Refused("no client is there"));
         };
         if desk.is_stopped() {
@@ -123,37 +136,40 @@ impl<N: Net + Drop> Client<N> {
 
     /// The check that comes next; none where the client ended or stopped.
     pub fn next_due(&self) -> Option<Option<Due>> {
-        match self {
-            Client::Made(desk, _) if !desk.is_stopped() => Some(desk.next_due()),
+        match &self.desk {
+            Some(desk) if !desk.is_stopped() => Some(desk.next_due()),
             _ => None,
         }
     }
 
     /// Whether it stopped for want of memory; none where no client is there.
     pub fn is_stopped(&self) -> Option<bool> {
-        match self {
-            Client::None => None,
-            Client::Made(desk, _) => Some(desk.is_stopped()),
-            Client::Ended(_, _, stopped) => Some(*stopped),
+        match (&self.desk, &self.left) {
+            (Some(desk), _) => Some(desk.is_stopped()),
+            (None, Some(_)) => Some(self.stopped),
+            (None, None) => None,
         }
     }
 
     /// The topology that it opened with.
     pub fn opening(&self) -> Option<&Topology> {
-        match self {
-            Client::None => None,
-            Client::Made(_, opening) | Client::Ended(_, opening, _) => Some(opening),
-        }
+        self.opening.as_ref()
     }
 
-    /// What it leaves at its end. One that ended is as it was.
-    pub fn finished(self, moment: u64) -> Client<N> {
-        match self {
-            Client::Made(desk, opening) => {
-                let Finished { trail, stopped, .. } = desk.finish(moment);
-                Client::Ended(trail, opening, stopped)
-            }
-            _ => self,
-        }
+    /// Ends it, where it was made and did not end.
+    pub fn finish(&mut self, moment: u64) -> Result<Told, CaseFault> {
+        let Some(desk) = self.desk.take() else {
+            return Err(CaseFault::Refused("no client is there that did not end"));
+        };
+        let (trail, stopped) = ended(desk, moment);
+        self.left = Some(trail);
+        self.stopped = stopped;
+        Ok(Told::Client)
     }
+}
+
+/// What a client leaves at its end, and whether it had stopped.
+fn ended<N: Net + Drop>(desk: Desk<N>, moment: u64) -> (Trail, bool) {
+    let Finished { trail, stopped, .. } = desk.finish(moment);
+    (trail, stopped)
 }

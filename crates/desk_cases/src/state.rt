@@ -47,7 +47,7 @@ impl<'a> State<'a> {
         State {
             peers,
             documents: Documents::new(alloc),
-            client: Client::None,
+            client: Client::none(),
             told: Told::Nothing,
             next: Cell::new(0),
         }
@@ -68,7 +68,7 @@ impl<'a> State<'a> {
 impl Subject for State<'_> {
     fn begin(&mut self, alloc: Global) -> Result<(), CaseFault> {
         let untold = self.has_untold();
-        self.client = Client::None;
+        self.client = Client::none();
         self.documents = Documents::new(alloc);
         self.told = Told::Nothing;
         self.next.set(0);

@@ -7,12 +7,11 @@
 //! - `due` asks which check comes next, and `finish at=MOMENT` ends the client.
 //!
 //! The others are those of [`told_step`](crate::telling::told_step), which tell peers what they do.
-use crate::calls::{Client, made};
+use crate::calls::made;
 use crate::state::{State, Told};
 use crate::telling::told_step;
 use case_files::{CaseFault, Words, parsed};
 use std::alloc::Global;
-use std::mem;
 
 /// Takes the step of these words.
 pub fn step_of(
@@ -39,7 +38,7 @@ pub fn step_of(
         "finish" => {
             let moment = moment(alloc, words)?;
             words.end(alloc)?;
-            finish(state, moment)
+            state.client.finish(moment)
         }
         _ => told_step(alloc, state, verb, words),
     }
@@ -57,19 +56,4 @@ fn client(alloc: Global, state: &mut State<'_>, words: &mut Words<'_>) -> Result
     state.client = made(alloc, state.peers, text, moment)?;
     state.next.set(0);
     Ok(Told::Client)
-}
-
-/// Ends the client.
-fn finish(state: &mut State<'_>, moment: u64) -> Result<Told, CaseFault> {
-    let client = mem::replace(&mut state.client, Client::None);
-    match client {
-        Client::Made(_, _) => {
-            state.client = client.finished(moment);
-            Ok(Told::Client)
-        }
-        _ => {
-            state.client = client;
-            Err(CaseFault::Refused("no client is there that did not end"))
-        }
-    }
 }

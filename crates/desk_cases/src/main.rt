@@ -1,8 +1,8 @@
 //! The program `desk_cases`: case files of `desk_core`, a client that discovers and checks servers over a net in memory.
 //!
 //! `desk_cases FILE..` runs the files as `case_files` says. Its steps are those of [`steps`], and their facts those of
-//! [`facts`]. A step's entries are named one by one: a step behind one of which an entry was not named is a complaint, and so
-//! is the end of such a file.
+//! [`facts`]. The entries that a step wrote are named one by one, in order: where one was not named, the next step is a complaint,
+//! and so is the end of the file.
 #![tactic(auto)]
 
 mod calls;
@@ -29,7 +29,12 @@ use std::process::ExitCode;
 fn main(rt: HostRuntime) -> io::Result<ExitCode> {
     let peers = RefCell::new(Peers::new(rt.alloc()));
     let mut state = State::opened(&peers, rt.alloc());
-    let status = run_files(&rt, &mut state)?;
+    run(&rt, &mut state)
+}
+
+/// Runs the files, and asks that the last of them names all entries.
+fn run(rt: &HostRuntime, state: &mut State<'_>) -> io::Result<ExitCode> {
+    let status = run_files(rt, state)?;
     if state.has_untold() {
         println!(rt; "the last file ends with entries that no line names")?;
         return Ok(ExitCode::from(1));

@@ -19,29 +19,36 @@ pub fn step_of(
     state: &mut State<'_>,
     words: &mut Words<'_>,
 ) -> Result<Told, CaseFault> {
-    let verb = words.next_as("step")?;
-    match verb {
+    match words.next_as("step")? {
         "client" => client(alloc, state, words),
-        "check" => {
-            let host = words.next_as("host")?;
-            let moment = moment(alloc, words)?;
-            words.end(alloc)?;
-            state.client.check(alloc, host, moment)
-        }
-        "due" => {
-            let _there = state
-                .client
-                .log()
-                .ok_or(CaseFault::Refused("no client is there"))?;
-            Ok(Told::Client)
-        }
-        "finish" => {
-            let moment = moment(alloc, words)?;
-            words.end(alloc)?;
-            state.client.finish(moment)
-        }
-        _ => told_step(alloc, state, verb, words),
+        "check" => check(alloc, state, words),
+        "due" => due(state),
+        "finish" => finish(alloc, state, words),
+        verb => told_step(alloc, state, verb, words),
     }
+}
+
+/// Steps the check of a host.
+fn check(alloc: Global, state: &mut State<'_>, words: &mut Words<'_>) -> Result<Told, CaseFault> {
+    let host = words.next_as("host")?;
+    let moment = moment(alloc, words)?;
+    words.end(alloc)?;
+    state.client.check(alloc, host, moment)
+}
+
+/// Asks which check comes next, of which the facts tell.
+fn due(state: &State<'_>) -> Result<Told, CaseFault> {
+    match state.client.log() {
+        Some(_) => Ok(Told::Client),
+        None => Err(CaseFault::Refused("no client is there")),
+    }
+}
+
+/// Ends the client.
+fn finish(alloc: Global, state: &mut State<'_>, words: &mut Words<'_>) -> Result<Told, CaseFault> {
+    let moment = moment(alloc, words)?;
+    words.end(alloc)?;
+    state.client.finish(moment)
 }
 
 fn moment(alloc: Global, words: &mut Words<'_>) -> Result<u64, CaseFault> {

@@ -7,7 +7,7 @@
 //! ```text
 //!   RunningCommand::new
 //!     wait_for_server | choose | find_none | find_incompatible     a look for a server
-//!     lease, draw                                                   at the choice
+//!     hold, draw                                                    at the choice
 //!     enter, dial, take, leave_pool                                 a connection
 //!     ask, end                                                      an attempt
 //!   finish, give_back                                               once it is answered

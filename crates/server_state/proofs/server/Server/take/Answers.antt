@@ -1,0 +1,23 @@
+use Rattle.std.proofs.Common.{◌≡◌, ◌∙◌, ap, sym, subst, arith, IsSome, length}
+use Rattle.desk_trail.specs.States.{ServerState}
+use Rattle.pool_book.specs.Pool.{Pool, ticket_of}
+use Rattle.server_state.proofs.PoolLemmas.{AnswersBy-dial, IsKept-dial, IsKept-left, answers-dial, moves-dial}
+use Rattle.server_state.proofs.server.Server.take.Goals as goal
+
+pub invariant_of-self-in-Dial : goal.invariant_of-self-in-Dial
+invariant_of-self-in-Dial c =
+    let there = subst (λ (n : ServerState). IsSome (ticket_of c.args.ticket.now.number n.pool.state.waiting)) (sym c.self.view_is) c.requires.waits in
+    let kept = IsKept-dial c.self.inside _ c.args.moment c.args.ticket.now.number c.in-Dial.conn c.self.invariant there (answers-dial c.self.inside _ _ _ _ _ c.in-Dial.is c.try_take-answer.ensures.goes) in
+    let longer = ap length c.push_reserved.ensures.items in
+    record { dialled = longer ∙ kept.0; waiting = kept.1; room = omega (arith, longer, kept.2, c.push_reserved.ensures.capacity) }
+
+pub invariant_of-self-in-Lent : goal.invariant_of-self-in-Lent
+invariant_of-self-in-Lent c =
+    let there = subst (λ (n : ServerState). IsSome (ticket_of c.args.ticket.now.number n.pool.state.waiting)) (sym c.self.view_is) c.requires.waits in
+    IsKept-left c.self.inside _ c.args.moment c.args.ticket.now.number _ c.self.invariant there c.try_take-answer.ensures.goes c.in-Lent.is
+
+pub returns-in-Dial-clause-goes : goal.returns-in-Dial-clause-goes
+returns-in-Dial-clause-goes c =
+    let goes = answers-dial c.self.inside _ _ _ _ _ c.in-Dial.is c.try_take-answer.ensures.goes in
+    let moves = moves-dial c.self.inside _ _ c.args.moment c.args.ticket.now.number c.in-Dial.conn _ c.self.view_is goes c.push_reserved.ensures.items in
+    AnswersBy-dial c.args.moment c.args.ticket.now.number c.in-Dial.conn _ _ _ c.in-Dial.is moves

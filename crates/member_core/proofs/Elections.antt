@@ -6,7 +6,7 @@ use Rattle.bson_doc.specs.declared.ids.Lsid.{Lsid}
 use Rattle.net_link.specs.declared.event.Effect.TheVariants.{Added}
 use Rattle.member_core.specs.Honest.{Fits}
 use Rattle.member_core.specs.Keys.{same_key}
-use Rattle.member_core.specs.Logs.{World, elected, handled, put, start, times}
+use Rattle.member_core.specs.Logs.{SetState, elected, handled, update_at, start, times}
 use Rattle.member_core.specs.Members.{Kept, elected_log, entries, gained_from}
 use Rattle.member_core.specs.declared.key.Key.{Key}
 use Rattle.member_core.specs.declared.key.Key.TheVariants.{Numbered}
@@ -26,13 +26,13 @@ abbrev again : LogEntry
 again = record { key = key; stream = 1; nth = 0 }
 
 -- 1 is elected; 0 still takes writes and adds one late; 1 adds it again and acknowledges it.
-abbrev one : World
+abbrev one : SetState
 one = elected start 1
 
-abbrev two : World
+abbrev two : SetState
 two = handled one 0 first Added
 
-abbrev three : World
+abbrev three : SetState
 three = handled two 1 again Added
 
 fits_first : Fits one 0 key true Added
@@ -49,10 +49,10 @@ once_by_keys = refl
 abbrev same_entry : LogEntry → LogEntry → Bool
 same_entry x y = same_key x.key y.key && ((x.stream == y.stream) && (x.nth == y.nth))
 
-abbrev elected_by_entries : World → ℕ → World
+abbrev elected_by_entries : SetState → ℕ → SetState
 elected_by_entries w m = record w {
-  log = put w.log m (w.log m ++ filter (λ entry. w.acked entry.key && not (list_any (same_entry entry) (w.log m))) (w.log w.last));
-  takes = put w.takes m true;
+  log = update_at w.log m (w.log m ++ filter (λ entry. w.acked entry.key && not (list_any (same_entry entry) (w.log m))) (w.log w.last));
+  takes = update_at w.takes m true;
   last = m;
 }
 

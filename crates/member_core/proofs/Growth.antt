@@ -8,8 +8,8 @@ use Rattle.net_link.specs.Events.{is_at}
 use Rattle.net_link.specs.declared.event.NetEvent.{NetEvent}
 use Rattle.net_link.specs.declared.event.NetEvent.TheVariants.{Dialled, Handled}
 use Rattle.member_core.specs.Honest.{IsAnswer, IsDialled, IsHonest, MayFollow, MayHandle, WasPlain}
-use Rattle.member_core.specs.Logs.{World, world}
-use Rattle.member_core.proofs.Runs.{reply_one, request_later, world-nil}
+use Rattle.member_core.specs.Logs.{SetState, set_after}
+use Rattle.member_core.proofs.Runs.{reply_one, request_later, set_after-nil}
 
 -- ---- where an event stands in a history with one more
 
@@ -55,7 +55,7 @@ plain_later history e s n p = record {
   before = p.before;
   after = p.after ++ e ∷ [];
   effect = p.effect;
-  here = ap (λ l. l ++ e ∷ []) p.here ∙ append_assoc p.before (Handled ((world p.before).last) s n p.effect ∷ p.after) (e ∷ []);
+  here = ap (λ l. l ++ e ∷ []) p.here ∙ append_assoc p.before (Handled ((set_after p.before).last) s n p.effect ∷ p.after) (e ∷ []);
   plain = p.plain;
 }
 
@@ -82,8 +82,8 @@ honest-nil = record {
   dialled = λ before after e s is at. absurd (nil-cons before after e is);
   handled = λ before after m s n effect is. absurd (nil-cons before after (Handled m s n effect) is);
   answered = λ before after s n reply is whole.
-      let came : (world before).came s ≡ [] = ap (λ h. (world h).came s) (nil-front before after is) ∙ ap (λ (w : World). w.came s) world-nil in
-      let none : slice_get (messages ((world before).came s)) n ≡ None = ap (λ bytes. slice_get (messages bytes) n) came ∙ ap (λ (ms : List Message). slice_get ms n) messages-nil in
+      let came : (set_after before).came s ≡ [] = ap (λ h. (set_after h).came s) (nil-front before after is) ∙ ap (λ (w : SetState). w.came s) set_after-nil in
+      let none : slice_get (messages ((set_after before).came s)) n ≡ None = ap (λ bytes. slice_get (messages bytes) n) came ∙ ap (λ (ms : List Message). slice_get ms n) messages-nil in
       let clash : None ≡ Some reply = sym none ∙ whole in
       absurd cc;
 }
@@ -91,7 +91,7 @@ honest-nil = record {
 -- ---- one more event
 
 answered_at : (history : List NetEvent) (e : NetEvent) → IsHonest history → MayFollow history e → (s n : ℕ) (reply : Message) (o : Option Message)
-    → slice_get (messages ((world history).came s)) n ≡ o → slice_get (messages ((world (history ++ e ∷ [])).came s)) n ≡ Some reply → IsAnswer (history ++ e ∷ []) s n reply
+    → slice_get (messages ((set_after history).came s)) n ≡ o → slice_get (messages ((set_after (history ++ e ∷ [])).came s)) n ≡ Some reply → IsAnswer (history ++ e ∷ []) s n reply
 answered_at history e honest may s n reply None none whole = may.answered s n reply whole none
 answered_at history e honest may s n reply (Some old) was whole =
     let same : Some old ≡ Some reply = sym (reply_one history e s n old was) ∙ whole in
@@ -118,7 +118,7 @@ honest-more history e honest may = record {
   answered = λ before after s n reply is whole.
       elim (all_or_before history before after e is) [
         | inl all ↦ subst (λ h. IsAnswer h s n reply) (sym all)
-            (answered_at history e honest may s n reply (slice_get (messages ((world history).came s)) n) refl (subst (λ h. slice_get (messages ((world h).came s)) n ≡ Some reply) all whole))
+            (answered_at history e honest may s n reply (slice_get (messages ((set_after history).came s)) n) refl (subst (λ h. slice_get (messages ((set_after h).came s)) n ≡ Some reply) all whole))
         | inr in_front ↦ honest.answered before in_front.0 s n reply in_front.1 whole
       ];
 }

@@ -1,11 +1,14 @@
 pub mod Bits
 pub mod Counts
+mod DepthLemmas
 mod Elections
 pub mod Growth
 pub mod MarkLemmas
 mod OneWrite
 pub mod PlaceLemmas
 pub mod Runs
+mod SizeLemmas
+pub mod SmallReplies
 pub mod Sounds
 pub mod Stands
 pub mod Steps

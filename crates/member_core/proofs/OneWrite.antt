@@ -11,7 +11,7 @@ use Rattle.net_link.specs.declared.event.NetEvent.{NetEvent}
 use Rattle.net_link.specs.declared.event.NetEvent.TheVariants as event
 use Rattle.member_core.specs.Honest.{Fits, IsAnswer, IsHonest, MayHandle, WasPlain}
 use Rattle.member_core.specs.Keys.{is_write}
-use Rattle.member_core.specs.Logs.{key_at, times, world}
+use Rattle.member_core.specs.Logs.{key_at, times, set_after}
 use Rattle.member_core.proofs.Growth.{honest-more, honest-nil}
 use Rattle.member_core.proofs.Runs.{keeps_plain}
 use Rattle.member_core.proofs.Steps.{may_come, may_dial, may_elect, may_handle, may_write}
@@ -39,32 +39,32 @@ module _ (out came : List ℕ) where
 
   -- ---- what it leaves, moment by moment
 
-  out-written : (world written).out 0 ≡ out
-  unfolding world
+  out-written : (set_after written).out 0 ≡ out
+  unfolding set_after
   out-written = refl
 
-  takes-written : (world written).takes 0 ≡ true
-  unfolding world
+  takes-written : (set_after written).takes 0 ≡ true
+  unfolding set_after
   takes-written = refl
 
-  log-written : (world written).log 0 ≡ []
-  unfolding world
+  log-written : (set_after written).log 0 ≡ []
+  unfolding set_after
   log-written = refl
 
-  last-written : (world written).last ≡ 0
-  unfolding world
+  last-written : (set_after written).last ≡ 0
+  unfolding set_after
   last-written = refl
 
-  out-done : (world done).out 0 ≡ out
-  unfolding world
+  out-done : (set_after done).out 0 ≡ out
+  unfolding set_after
   out-done = refl
 
-  came-done : (world done).came 0 ≡ []
-  unfolding world
+  came-done : (set_after done).came 0 ≡ []
+  unfolding set_after
   came-done = refl
 
-  last-chosen : (world chosen).last ≡ 1
-  unfolding world
+  last-chosen : (set_after chosen).last ≡ 1
+  unfolding set_after
   last-chosen = refl
 
   -- ---- it is honest
@@ -88,7 +88,7 @@ module _ (out came : List ℕ) where
     may = record {
       request = request;
       whole = ap (λ bytes. slice_get (messages bytes) 0) out-written ∙ ap (λ (ms : List Message). slice_get ms 0) sent;
-      fits = subst (λ b. Fits (world written) 0 (key_at (world written) 0 0) b Added) (sym write) (takes-written, ap (times (key_at (world written) 0 0)) log-written);
+      fits = subst (λ b. Fits (set_after written) 0 (key_at (set_after written) 0 0) b Added) (sym write) (takes-written, ap (times (key_at (set_after written) 0 0)) log-written);
       once = λ other e there. not_handled other 0 e there;
       one = λ other n e there. absurd (not_handled other n e there);
     }
@@ -114,7 +114,7 @@ module _ (out came : List ℕ) where
     honest-answered : IsHonest answered
     honest-answered = honest-more done (event.Came 0 came) honest-done (may_come done 0 came (97 ∷ [], (0, omega arith, refl))
         (λ n r whole.
-        let bytes : (world done).came 0 ++ came ≡ came = ap (λ l. l ++ came) came-done in
+        let bytes : (set_after done).came 0 ++ came ≡ came = ap (λ l. l ++ came) came-done in
         only n r (sym (ap (λ (ms : List Message). slice_get ms n) (ap messages bytes ∙ answers)) ∙ whole)))
 
     honest-chosen : IsHonest chosen
@@ -131,5 +131,5 @@ module _ (out came : List ℕ) where
       plain = tt;
     }
 
-    stays : times (key_at (world chosen) 0 0) ((world chosen).log 1) ≡ 1
-    stays = subst (λ m. times (key_at (world chosen) 0 0) ((world chosen).log m) ≡ 1) last-chosen (keeps_plain chosen honest-chosen chosen [] 0 0 refl plain)
+    stays : times (key_at (set_after chosen) 0 0) ((set_after chosen).log 1) ≡ 1
+    stays = subst (λ m. times (key_at (set_after chosen) 0 0) ((set_after chosen).log m) ≡ 1) last-chosen (keeps_plain chosen honest-chosen chosen [] 0 0 refl plain)

@@ -9,9 +9,9 @@ use Rattle.net_link.specs.declared.event.Effect.{Effect}
 use Rattle.net_link.specs.declared.event.NetEvent.{NetEvent}
 use Rattle.net_link.specs.declared.event.NetEvent.TheVariants as event
 use Rattle.member_core.specs.Honest.{IsAnswer, IsDialled, MayFollow, MayHandle}
-use Rattle.member_core.specs.Logs.{World, entry_at, happens, world}
+use Rattle.member_core.specs.Logs.{SetState, entry_at, after_event, set_after}
 use Rattle.member_core.proofs.Growth.{answer_later}
-use Rattle.member_core.proofs.Runs.{handled-came, world-more}
+use Rattle.member_core.proofs.Runs.{handled-came, set_after-more}
 
 Contains-last : (history : List NetEvent) (e : NetEvent) → Contains (history ++ e ∷ []) e
 Contains-last history e = Contains-append_right history (e ∷ []) e (0, omega arith, refl)
@@ -24,10 +24,10 @@ dialled_at : (history : List NetEvent) (e : NetEvent) (s t : ℕ) → IsDialled 
 dialled_at history e s t d at = subst (λ k. IsDialled (history ++ e ∷ []) k) (eqb-true s t at) (dialled_later history e s d)
 
 -- Where nothing came, no reply is new.
-nothing_came : (history : List NetEvent) (e : NetEvent) (t n : ℕ) (reply : Message) → (happens (world history) e).came t ≡ (world history).came t
-    → slice_get (messages ((world (history ++ e ∷ [])).came t)) n ≡ Some reply → slice_get (messages ((world history).came t)) n ≡ None → ⊥
+nothing_came : (history : List NetEvent) (e : NetEvent) (t n : ℕ) (reply : Message) → (after_event (set_after history) e).came t ≡ (set_after history).came t
+    → slice_get (messages ((set_after (history ++ e ∷ [])).came t)) n ≡ Some reply → slice_get (messages ((set_after history).came t)) n ≡ None → ⊥
 nothing_came history e t n reply same whole none =
-    let now : (world (history ++ e ∷ [])).came t ≡ (world history).came t = ap (λ (w : World). w.came t) (world-more history e) ∙ same in
+    let now : (set_after (history ++ e ∷ [])).came t ≡ (set_after history).came t = ap (λ (w : SetState). w.came t) (set_after-more history e) ∙ same in
     let clash : Some reply ≡ None = sym whole ∙ ap (λ bytes. slice_get (messages bytes) n) now ∙ none in
     cc
 
@@ -56,7 +56,7 @@ may_handle history m s n effect d may = record {
   dialled_once = λ t a e there. cc;
   dialled = λ t at. dialled_at history (event.Handled m s n effect) s t d at;
   handled = λ m' s' n' effect' e. subst (MayHandleAs history) e may;
-  answered = λ t k reply whole none. absurd (nothing_came history (event.Handled m s n effect) t k reply (ap (λ (f : ℕ → List ℕ). f t) (handled-came (world history) m (entry_at (world history) s n) effect)) whole none);
+  answered = λ t k reply whole none. absurd (nothing_came history (event.Handled m s n effect) t k reply (ap (λ (f : ℕ → List ℕ). f t) (handled-came (set_after history) m (entry_at (set_after history) s n) effect)) whole none);
 }
 
 pub may_elect : (history : List NetEvent) (m : ℕ) → MayFollow history (event.Elected m)
@@ -67,20 +67,20 @@ may_elect history m = record {
   answered = λ t n reply whole none. absurd (nothing_came history (event.Elected m) t n reply refl whole none);
 }
 
-came_at : (history : List NetEvent) (s : ℕ) (bytes : List ℕ) → ((n : ℕ) (reply : Message) → slice_get (messages ((world history).came s ++ bytes)) n ≡ Some reply → IsAnswer history s n reply)
-    → (t n : ℕ) (reply : Message) (b : Bool) → eqb t s ≡ b → slice_get (messages (cond b ((world history).came s ++ bytes) ((world history).came t))) n ≡ Some reply
-    → slice_get (messages ((world history).came t)) n ≡ None → IsAnswer history t n reply
+came_at : (history : List NetEvent) (s : ℕ) (bytes : List ℕ) → ((n : ℕ) (reply : Message) → slice_get (messages ((set_after history).came s ++ bytes)) n ≡ Some reply → IsAnswer history s n reply)
+    → (t n : ℕ) (reply : Message) (b : Bool) → eqb t s ≡ b → slice_get (messages (cond b ((set_after history).came s ++ bytes) ((set_after history).came t))) n ≡ Some reply
+    → slice_get (messages ((set_after history).came t)) n ≡ None → IsAnswer history t n reply
 came_at history s bytes answers t n reply true at whole none = subst (λ k. IsAnswer history k n reply) (sym (eqb-true t s at)) (answers n reply whole)
 came_at history s bytes answers t n reply false at whole none = absurd (let clash : Some reply ≡ None = sym whole ∙ none in let never : ⊥ = cc in never)
 
 pub may_come : (history : List NetEvent) (s : ℕ) (bytes : List ℕ) → IsDialled history s
-    → ((n : ℕ) (reply : Message) → slice_get (messages ((world history).came s ++ bytes)) n ≡ Some reply → IsAnswer history s n reply) → MayFollow history (event.Came s bytes)
+    → ((n : ℕ) (reply : Message) → slice_get (messages ((set_after history).came s ++ bytes)) n ≡ Some reply → IsAnswer history s n reply) → MayFollow history (event.Came s bytes)
 may_come history s bytes d answers = record {
   dialled_once = λ t a e there. cc;
   dialled = λ t at. dialled_at history (event.Came s bytes) s t d at;
   handled = λ m t n effect e. absurd (let clash : ⊥ = cc in clash);
   answered = λ t n reply whole none.
-      let now : (world (history ++ event.Came s bytes ∷ [])).came t ≡ cond (eqb t s) ((world history).came s ++ bytes) ((world history).came t) = ap (λ (w : World). w.came t) (world-more history (event.Came s bytes)) in
+      let now : (set_after (history ++ event.Came s bytes ∷ [])).came t ≡ cond (eqb t s) ((set_after history).came s ++ bytes) ((set_after history).came t) = ap (λ (w : SetState). w.came t) (set_after-more history (event.Came s bytes)) in
       answer_later history (event.Came s bytes) t n reply
       (came_at history s bytes answers t n reply (eqb t s) refl (ap (λ l. slice_get (messages l) n) (sym now) ∙ whole) none);
 }

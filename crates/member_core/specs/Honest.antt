@@ -13,14 +13,14 @@ use Rattle.net_link.specs.declared.event.Effect.TheVariants.{Added, Known, Refus
 use Rattle.net_link.specs.declared.event.NetEvent.{NetEvent}
 use Rattle.net_link.specs.declared.event.NetEvent.TheVariants.{Dialled, Handled}
 use Rattle.member_core.specs.Keys.{is_write}
-use Rattle.member_core.specs.Logs.{World, key_at, times, world}
+use Rattle.member_core.specs.Logs.{SetState, key_at, times, set_after}
 use Rattle.member_core.specs.declared.key.Key.{Key}
 
 -- ---- What a member may do with a request
 
 -- A write is added or known only where the member takes writes: added where its log lacks the key, known where it has it. Any
 -- write may be refused, and what is no write does nothing.
-abbrev pub Fits : World → ℕ → Key → (is_write : Bool) → Effect → Type 0
+abbrev pub Fits : SetState → ℕ → Key → (is_write : Bool) → Effect → Type 0
 Fits w member key true Added = (w.takes member ≡ true) × (times key (w.log member) ≡ 0)
 Fits w member key true Known = (w.takes member ≡ true) × (1 ≤ times key (w.log member))
 Fits w member key true Refused = Unit {0}
@@ -34,8 +34,8 @@ Fits w member key false Nothing = Unit {0}
 -- nobody handled it before, and no other member handled one of that stream.
 pub record MayHandle (before : List NetEvent) (member stream nth : ℕ) (effect : Effect) : Type 0 where
   pub request : Message
-  pub whole : slice_get (messages ((world before).out stream)) nth ≡ Some request
-  pub fits : Fits (world before) member (key_at (world before) stream nth) (is_write request.body) effect
+  pub whole : slice_get (messages ((set_after before).out stream)) nth ≡ Some request
+  pub fits : Fits (set_after before) member (key_at (set_after before) stream nth) (is_write request.body) effect
   pub once : (other : ℕ) (e : Effect) → ¬ (Contains before (Handled other stream nth e))
   pub one : (other n : ℕ) (e : Effect) → Contains before (Handled other stream n e) → other ≡ member
 
@@ -53,7 +53,7 @@ pub record WasPlain (history : List NetEvent) (stream nth : ℕ) : Type 0 where
   pub before : List NetEvent
   pub after : List NetEvent
   pub effect : Effect
-  pub here : history ≡ before ++ Handled ((world before).last) stream nth effect ∷ after
+  pub here : history ≡ before ++ Handled ((set_after before).last) stream nth effect ∷ after
   pub plain : IsPlain effect
 
 -- The reply says that the command was carried out, without errors of its writes or of their concern (CRUD, Error handling).
@@ -71,7 +71,7 @@ pub record IsAnswer (history : List NetEvent) (stream nth : ℕ) (reply : Messag
   pub effect : Effect
   pub handled : Contains history (Handled member stream nth effect)
   pub request : Message
-  pub whole : slice_get (messages ((world history).out stream)) nth ≡ Some request
+  pub whole : slice_get (messages ((set_after history).out stream)) nth ≡ Some request
   pub to : reply.to ≡ request.id
   pub ok : is_write request.body ≡ true → says_ok reply.body ≡ true → WasPlain history stream nth
 
@@ -88,12 +88,12 @@ pub record IsHonest (history : List NetEvent) : Type 0 where
   pub dialled : (before after : List NetEvent) (e : NetEvent) (stream : ℕ) → history ≡ before ++ e ∷ after → is_at e stream ≡ true → IsDialled (before ++ e ∷ []) stream
   pub handled : (before after : List NetEvent) (member stream nth : ℕ) (effect : Effect) → history ≡ before ++ Handled member stream nth effect ∷ after → MayHandle before member stream nth effect
   pub answered : (before after : List NetEvent) (stream nth : ℕ) (reply : Message) → history ≡ before ++ after
-      → slice_get (messages ((world before).came stream)) nth ≡ Some reply → IsAnswer before stream nth reply
+      → slice_get (messages ((set_after before).came stream)) nth ≡ Some reply → IsAnswer before stream nth reply
 
 -- An honest history may go on with the event: the same of it alone, where only replies that were not whole before owe anything.
 pub record MayFollow (before : List NetEvent) (e : NetEvent) : Type 0 where
   pub dialled_once : (stream : ℕ) (address : List ℕ) → e ≡ Dialled stream address → ¬ (IsDialled before stream)
   pub dialled : (stream : ℕ) → is_at e stream ≡ true → IsDialled (before ++ e ∷ []) stream
   pub handled : (member stream nth : ℕ) (effect : Effect) → e ≡ Handled member stream nth effect → MayHandle before member stream nth effect
-  pub answered : (stream nth : ℕ) (reply : Message) → slice_get (messages ((world (before ++ e ∷ [])).came stream)) nth ≡ Some reply
-      → slice_get (messages ((world before).came stream)) nth ≡ None → IsAnswer (before ++ e ∷ []) stream nth reply
+  pub answered : (stream nth : ℕ) (reply : Message) → slice_get (messages ((set_after (before ++ e ∷ [])).came stream)) nth ≡ Some reply
+      → slice_get (messages ((set_after before).came stream)) nth ≡ None → IsAnswer (before ++ e ∷ []) stream nth reply

@@ -5,4 +5,5 @@ pub mod Logs
 pub mod Members
 pub mod Once
 pub mod Replies
+pub mod Sizes
 pub mod Standing

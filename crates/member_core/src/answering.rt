@@ -1,16 +1,18 @@
 //! How a member answers a request.
 ghost use Rattle.std.specs.Prelude.{◌≡◌, ◌++◌, ◌∷◌, [], IfOk, OnOk, OnErr, if◌then◌else◌};
-ghost use Rattle.msg_wire.specs.Framing.{frame};
+ghost use Rattle.msg_wire.specs.Framing.{Framed, frame, message_of};
+ghost use Rattle.member_core.specs.Inside.{IsSmall};
 ghost use Rattle.member_core.specs.Keys.{is_write as writes};
 ghost use Rattle.member_core.specs.Logs.{times};
 ghost use Rattle.member_core.specs.Members.{effect_of as effect_of_request, entries, logged, marked, takes_writes as takes_any, with_answer, write_effect};
-ghost use Rattle.member_core.specs.Replies.{answer_bytes, read_reply, reply_by};
+ghost use Rattle.member_core.specs.Replies.{answer_bytes, read_reply, reply_by, reply_of};
 
 use crate::places::{lacks, place_of};
 use crate::request::{command_name, is_write, key_of};
 use crate::write_reply::{find_reply, plain_ok, refusal, write_result};
 use crate::{Key, LogEntry, Member, Memory};
 use bson_doc::{Bytes, Document};
+use bson_wire::EncodeFault;
 use msg_wire::{Message, write};
 use net_link::Effect;
 use std::alloc::{AllocError, Global};
@@ -39,6 +41,7 @@ impl Member {
     ) -> Result<Answered, Memory>
         ensures effect { IfOk result (λ a. a.effect ≡ effect_of_request self.old message.now.body stream nth) }
         ensures bytes { IfOk result (λ a. a.bytes ≡ answer_bytes self.old message.now id stream nth lead) }
+        ensures framed { IfOk result (λ a. Framed a.bytes (message_of id message.now.id 0 (reply_of self.old message.now.body stream nth lead))) }
         ensures member { OnOk result (self.new ≡ with_answer self.old message.now.body stream nth lead) }
         ensures err { OnErr result (self.new ≡ self.old) }
     {
@@ -65,8 +68,25 @@ impl Member {
         }
     }
 
-    /// The document of the answer to a command of that name.
+    /// The document of the answer to a command of that name. It has a message.
     fn reply(
+        &self,
+        alloc: Global,
+        name: &str,
+        lead: bool,
+        effect: Effect,
+    ) -> Result<Document, Memory>
+        ensures document { IfOk result (λ d. d ≡ reply_by self.now name.now lead effect) }
+        ensures small { IfOk result (λ d. IsSmall d) }
+    {
+        // (a field is named so that the bound, which the member keeps, is known here)
+        let _ = &self.hosts;
+        let document = self.reply_by(alloc, name, lead, effect)?;
+        Ok(document)
+    }
+
+    /// The same document, by its kind.
+    fn reply_by(
         &self,
         alloc: Global,
         name: &str,
@@ -137,8 +157,14 @@ impl Member {
 
 /// The bytes of a message with that document.
 fn framed(alloc: Global, id: i32, to: i32, document: &Document) -> Result<Bytes, Memory>
-    ensures { IfOk result (λ bytes. bytes ≡ frame id to 0 document.now) }
+    requires { IsSmall document.now }
+    ensures bytes { IfOk result (λ bytes. bytes ≡ frame id to 0 document.now) }
+    ensures framed { IfOk result (λ bytes. Framed bytes (message_of id to 0 document.now)) }
 {
-    // (an answer is far below the bounds of depth and size, so that memory alone can be wanting)
-    write(alloc, id, to, 0, document).map_err(|_| AllocError)
+    match write(alloc, id, to, 0, document) {
+        Ok(bytes) => Ok(bytes),
+        Err(EncodeFault::Memory) => Err(AllocError),
+        Err(EncodeFault::Deep) => unreachable!(),
+        Err(EncodeFault::Long) => unreachable!(),
+    }
 }

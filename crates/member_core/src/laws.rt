@@ -7,7 +7,7 @@ ghost use Rattle.msg_wire.specs.declared.message.Message.{Message};
 ghost use Rattle.net_link.specs.declared.event.NetEvent.{NetEvent};
 ghost use Rattle.member_core.specs.Honest.{Fits, IsHonest, IsPlain, MayFollow, says_ok};
 ghost use Rattle.member_core.specs.Keys.{is_write};
-ghost use Rattle.member_core.specs.Logs.{key_at, put, world};
+ghost use Rattle.member_core.specs.Logs.{key_at, update_at, set_after};
 ghost use Rattle.member_core.specs.Members.{MemberState, effect_of, with_answer, with_election, with_log};
 ghost use Rattle.member_core.specs.Once.{AtMostOnce, Keeps};
 ghost use Rattle.member_core.specs.Replies.{reply_of};
@@ -34,20 +34,20 @@ pub fn honest_histories_grow()
 /// member's and plain.
 pub fn members_stand_as_told()
     ensures fits { (members : ℕ → MemberState) (history : List NetEvent) (m s n : ℕ) (request : Message)
-        → StandAs members (world history) → slice_get (messages ((world history).out s)) n ≡ Some request
-        → Fits (world history) m (key_at (world history) s n) (is_write request.body) (effect_of (members m) request.body s n) }
+        → StandAs members (set_after history) → slice_get (messages ((set_after history).out s)) n ≡ Some request
+        → Fits (set_after history) m (key_at (set_after history) s n) (is_write request.body) (effect_of (members m) request.body s n) }
     ensures ok { (m : MemberState) (body : Document) (s n : ℕ) (lead : Bool)
         → is_write body ≡ true → says_ok (reply_of m body s n lead) ≡ true
         → (lead ≡ true) × IsPlain (effect_of m body s n) }
     ensures answer { (members : ℕ → MemberState) (history : List NetEvent) (m s n : ℕ) (request : Message)
-        → StandAs members (world history) → slice_get (messages ((world history).out s)) n ≡ Some request
-        → StandAs (put members m (with_answer (members m) request.body s n ((world history).last == m)))
-        (world (history ++ NetEvent.Handled m s n (effect_of (members m) request.body s n) ∷ [])) }
-    ensures elect { (members : ℕ → MemberState) (history : List NetEvent) (m number : ℕ) → StandAs members (world history)
-        → StandAs (put members m (with_election (members m) (last_log members (world history) m) number))
-        (world (history ++ NetEvent.Elected m ∷ [])) }
+        → StandAs members (set_after history) → slice_get (messages ((set_after history).out s)) n ≡ Some request
+        → StandAs (update_at members m (with_answer (members m) request.body s n ((set_after history).last == m)))
+        (set_after (history ++ NetEvent.Handled m s n (effect_of (members m) request.body s n) ∷ [])) }
+    ensures elect { (members : ℕ → MemberState) (history : List NetEvent) (m number : ℕ) → StandAs members (set_after history)
+        → StandAs (update_at members m (with_election (members m) (last_log members (set_after history) m) number))
+        (set_after (history ++ NetEvent.Elected m ∷ [])) }
     ensures follow { (members : ℕ → MemberState) (history : List NetEvent) (m : ℕ)
-        → StandAs members (world history) → ((world history).last == m) ≡ false
-        → StandAs (put members m (with_log (members m) (members (world history).last).log))
-        (world (history ++ NetEvent.Followed m ∷ [])) }
+        → StandAs members (set_after history) → ((set_after history).last == m) ≡ false
+        → StandAs (update_at members m (with_log (members m) (members (set_after history).last).log))
+        (set_after (history ++ NetEvent.Followed m ∷ [])) }
 {}

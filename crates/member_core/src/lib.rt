@@ -1,7 +1,7 @@
 //! Members of a replica set in memory, for trying a client without a database: their logs, and how often a write stands in
 //! them.
 //!
-//! [`Member::new`] makes the member at a place of the set's hosts. [`Member::answer`] answers a request by the bytes of one
+//! [`Member::new`] makes the member at a place of the set's hosts, which are within a bound ([`is_within`]). [`Member::answer`] answers a request by the bytes of one
 //! message: a hello by the member's role, a write by its result, or by a refusal where the member takes no writes. A write
 //! is known by its [`Key`], so that one that comes again is not done again; what was done stands in the log as a
 //! [`LogEntry`]. [`Member::elect`] makes a member primary, [`Member::follow`] makes it a secondary with another's log.
@@ -24,6 +24,7 @@ mod log;
 mod member;
 mod places;
 mod request;
+mod sizes;
 #[cfg(test)]
 mod tests;
 mod write_reply;
@@ -32,6 +33,7 @@ pub use answering::Answered;
 pub use key::Key;
 pub use log::LogEntry;
 pub use member::Member;
+pub use sizes::is_within;
 
 /// Want of memory, the error of calls that can fail in no other way.
 pub type Memory = std::alloc::AllocError;

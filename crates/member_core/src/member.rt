@@ -1,5 +1,6 @@
 ghost use Rattle.std.specs.Prelude.{◌≡◌, ◌<◌, length, IfOk};
 ghost use Rattle.member_core.specs.Members.{entries, new_member, takes_writes as takes_any};
+ghost use Rattle.member_core.specs.Sizes.{IsWithin};
 
 use crate::{LogEntry, Memory};
 use bson_doc::{Rows, Text};
@@ -32,9 +33,12 @@ impl Model for Member {
 }
 
 impl Member {
-    /// The member at a place of the set's hosts, with an empty log. The one at place 0 is primary, by election 1.
+    /// The member at a place of the set's hosts, with an empty log. The one at place 0 is primary, by election 1. The bytes of
+    /// the set's name and of the displayed hosts, with 64 more for the name and for each host, come to at most 15,000,000, so
+    /// that a hello that tells all of them fits into a message.
     pub fn new(alloc: Global, set: &str, hosts: &[Host], place: u32) -> Result<Member, Memory>
         requires place { place < length hosts.now }
+        requires within { IsWithin set.now hosts.now }
         ensures member { IfOk result (λ m. m ≡ new_member set.now hosts.now place) }
     {
         Ok(Member {

@@ -1,9 +1,9 @@
-use Rattle.member_core.specs.Logs.{world}
+use Rattle.member_core.specs.Logs.{set_after}
 use Rattle.member_core.proofs.Stands.{effect_fits, ok_is_plain, stand_answer, stand_election, stand_following}
 use Rattle.member_core.proofs.laws.members_stand_as_told.Goals as goal
 
 pub returns-clause-fits : goal.returns-clause-fits
-returns-clause-fits c = λ members history m s n request stand whole. effect_fits members (world history) m s n request stand whole
+returns-clause-fits c = λ members history m s n request stand whole. effect_fits members (set_after history) m s n request stand whole
 
 pub returns-clause-ok : goal.returns-clause-ok
 returns-clause-ok c = ok_is_plain

@@ -1,0 +1,5 @@
+pub mod Answering
+pub mod Bytes
+pub mod Handling
+pub mod Honesty
+pub mod Playing

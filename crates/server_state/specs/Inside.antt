@@ -30,7 +30,7 @@ state_of s = record {
   pool = nothing_owed s.pool;
   checks = halted s.has_left s.watch;
   check_stream = s.check_stream;
-  dry = None;
+  dry = s.dry;
   conn_streams = streams_from 1 s.streams.items [];
 }
 

@@ -1,5 +1,5 @@
 //! The checks of a server (Server Monitoring).
-ghost use Rattle.std.specs.Prelude.{◌≡◌, ◌≢◌, ◌≤◌, ◌^◌, false, None, IsSome};
+ghost use Rattle.std.specs.Prelude.{◌≡◌, ◌≢◌, ◌≤◌, ◌^◌, false, None, Some, IsSome};
 ghost use Rattle.watch_step.specs.Ends.{is_again};
 ghost use Rattle.desk_trail.specs.declared.entry.CheckHow.TheVariants as how_of;
 ghost use Rattle.desk_trail.specs.Checks.{asked, check_begins, check_ends, end_of, leaves};
@@ -19,6 +19,7 @@ impl Server {
         self.watch.begin(moment);
         self.check_stream = Some(stream);
         self.hello = hello;
+        self.dry = None;
     }
 
     /// The check that runs ends, or no stream could be made for one. `known` says whether the topology knew the server.
@@ -38,6 +39,14 @@ impl Server {
         if !matches!(how, CheckHow::Reply { .. }) {
             self.check_stream = None;
         }
+        self.dry = None;
+    }
+
+    /// The check that runs was seen without an answer.
+    pub fn find_dry(&mut self, moment: u64)
+        ensures dry { self.new ≡ record self.old { dry = Some moment } }
+    {
+        self.dry = Some(moment);
     }
 
     /// A check is asked for.
@@ -57,6 +66,7 @@ impl Server {
     {
         self.has_left = true;
         self.check_stream = None;
+        self.dry = None;
     }
 }
 

@@ -7,7 +7,7 @@
 //!
 //! ```text
 //!   Server::new
-//!     begin_check, end_check, ask                            its checks
+//!     begin_check, find_dry, end_check, ask                  its checks
 //!     ready_pool, clear_pool                                 its pool, by what a check told
 //!     enter, sweep, take                                     a command asks for a connection
 //!       keep_stream, established | lost                      and dials one

@@ -26,7 +26,7 @@ impl Server {
 
     /// Its pool is closed; each connection that was available ([`Server::available`]) is to be shut as `PoolClosed`.
     pub fn shut_pool(&mut self, moment: u64)
-        requires open { is_closed self.old.pool.state.state ≡ false }
+        requires is_open { is_closed self.old.pool.state.state ≡ false }
         ensures shut { self.new ≡ behind_group moment pool.Shut self.old }
         ensures alone { self.old.pool.state.available ≡ [] → self.new ≡ with_pool moment pool.Shut self.old }
     {

@@ -14,7 +14,8 @@ use std::marker::Model;
 use watch_step::Watch;
 
 /// One stay of a server in the topology: its address, when it was named and whether it left; its pool, with the streams of its
-/// connections; and its checks, with the stream of the one that runs or that the next one goes on with.
+/// connections; and its checks, with the stream of the one that runs or that the next one goes on with, and when the one that
+/// runs was last seen without an answer.
 #[derive(Debug, Drop)]
 pub struct Server {
     pub(crate) host: Host,
@@ -27,6 +28,7 @@ pub struct Server {
     pub(crate) watch: Watch,
     pub(crate) check_stream: Option<u64>,
     pub(crate) hello: i32,
+    pub(crate) dry: Option<u64>,
 }
 
 impl Model for Server {
@@ -61,6 +63,7 @@ impl Server {
             watch: Watch::new(beat_micros, moment),
             check_stream: None,
             hello: 0,
+            dry: None,
         }
     }
 
@@ -76,6 +79,13 @@ impl Server {
         ensures at { result ≡ (not self.now.has_left && is_same_address self.now.address host.now) }
     {
         !self.has_left && self.host == *host
+    }
+
+    /// When it was named, in microseconds.
+    pub fn named(&self) -> u64
+        ensures named { result ≡ self.now.named }
+    {
+        self.named
     }
 
     /// Whether it left the topology.
@@ -156,6 +166,21 @@ impl Server {
         ensures due { result ≡ self.now.checks.due }
     {
         self.watch.due()
+    }
+
+    /// When its last check ended; None where none did.
+    pub fn ended(&self) -> Option<u64>
+        ensures value { result ≡ self.now.checks.ended }
+        ensures bound { IsInRange result }
+    {
+        self.watch.ended()
+    }
+
+    /// When the check that runs was last seen without an answer; None where it was not.
+    pub fn dry(&self) -> Option<u64>
+        ensures dry { result ≡ self.now.dry }
+    {
+        self.dry
     }
 
     /// The stream of the check that runs, or that the next one goes on with.

@@ -82,6 +82,14 @@ impl Watch {
         self.began
     }
 
+    /// When the last check ended; None where none did.
+    pub fn ended(&self) -> Option<u64>
+        ensures ended { result ≡ self.now.ended }
+        ensures bound { IsInRange result }
+    {
+        self.ended
+    }
+
     /// A check begins. None runs.
     pub fn begin(&mut self, moment: u64)
         requires idle { self.old.began ≡ None }

@@ -9,7 +9,9 @@ use Rattle.desk_trail.specs.declared.room.Room.{Room}
 use Rattle.desk_trail.specs.declared.step.Step.{Step}
 use Rattle.desk_trail.specs.Facts.{Lists}
 use Rattle.desk_trail.specs.Facts as fact
-use Rattle.desk_trail.specs.Legal.{Point}
+use Rattle.desk_trail.specs.Legal.{InTime, MayGoOn, Point, StandsAt}
+use Rattle.desk_trail.specs.Owed.{InTurn, Owed}
+use Rattle.desk_trail.specs.Owed as owed
 use Rattle.desk_trail.specs.States.{ClientState, ServerState, fresh_server}
 use Rattle.desk_trail.specs.Written.{IsAtLeast, a_name, with_entry}
 use Rattle.legal_trail.specs.Recorded.{Adds, Recorded}
@@ -135,6 +137,19 @@ IsKept-named old new before lines topology ss items time count last moment x sto
       counted = ap (λ n. n + 1) counted ∙ sym (standing-append ss (fresh_server old.client moment a) refl);
       in_range = k.in_range;
     }))
+
+-- ---- When it may stand
+
+pub StandsAt-named : (trail : Recorded) (lines : Lines) (topology : Topology) (ss : List ServerState) (time : Option ClusterTime) (last moment : ℕ) (a b : Address)
+    (rest : List Owed) → trail.point.owed ≡ owed.Named a ∷ rest → trail.point.moment ≡ moment → b ≡ a → LeadsTo trail lines topology ss time last →
+    StandsAt trail.client trail.point (record { at = moment; what = fact.Named (length trail.lists.names) b })
+StandsAt-named trail lines topology ss time last moment a b rest owes at name h = record {
+  time = subst (λ o. InTime o trail.point.moment moment) (sym owes) (sym at);
+  turn = subst (λ o. InTurn o (fact.Named (length trail.lists.names) b)) (sym owes) name;
+  going = subst (λ g. MayGoOn g (fact.Named (length trail.lists.names) b)) (sym (ap (λ (w : ClientState). w.is_ending) h.state)) tt;
+  rule = ap length h.names ∙ length-map ss (λ (s : ServerState). s.address) ∙ sym (ap (λ (w : ClientState). length w.servers) h.state);
+  command = tt;
+}
 
 -- ---- A later moment
 

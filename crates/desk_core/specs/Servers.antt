@@ -1,17 +1,11 @@
--- The servers of a desk (own: what is kept of one that left).
+-- The servers of a desk (own: what is kept of each).
 use Rattle.std.specs.Prelude.{◌≡◌, ◌<◌, ℕ, ◌+◌, Bool, true, false, List, [], ◌∷◌, Option, None, Some, slice_get, if◌then◌else◌}
-use Rattle.watch_step.specs.Checks.{Checks}
 use Rattle.host_name.specs.Addresses.{Address, is_same_address}
 use Rattle.pool_book.specs.Pool.{is_closed}
 use Rattle.wired_trail.specs.Lines.{Lines, line_at}
 use Rattle.wired_trail.specs.declared.lines.Line.{Line}
 use Rattle.wired_trail.specs.declared.stream_use.StreamUse.TheVariants as for_use
 use Rattle.desk_trail.specs.States.{ClientState, ServerState, number_of}
-
--- The checks of a server that left: none runs any more.
-abbrev pub halted : Bool → Checks → Checks
-halted true c = record c { began = None }
-halted false c = c
 
 -- How many of the servers stand in the topology.
 abbrev pub standing : List ServerState → ℕ

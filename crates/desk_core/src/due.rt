@@ -3,9 +3,9 @@ ghost use Rattle.desk_trail.specs.States.{ClientState};
 ghost use Rattle.desk_core.specs.Due.{IsNext, due_at, is_earlier, nearer};
 
 use crate::Due;
-use crate::server::Server;
 use crate::state::Core;
 use net_link::Net;
+use server_state::Server;
 
 /// When the server's check is due, where the last step was made at a moment.
 fn due_at(server: &Server, last: u64) -> u64

@@ -10,10 +10,10 @@ ghost use Rattle.desk_core.specs.Ending.{ArePoolsShut};
 ghost use Rattle.desk_core.specs.Kept.{IsReady};
 ghost use Rattle.desk_core.specs.Servers.{standing};
 
-use crate::server::Server;
 use crate::state::Core;
 use desk_trail::Entry;
 use net_link::Net;
+use server_state::Server;
 use wired_trail::{Finished, WiredTrail};
 
 /// Closes the pool of a server, where that stands in the topology.

@@ -30,7 +30,6 @@ mod naming;
 mod offers;
 mod opening;
 mod pools;
-mod server;
 mod sight;
 mod state;
 mod stepping;

@@ -9,13 +9,13 @@ ghost use Rattle.desk_core.specs.Rests.{KeepsChecks};
 ghost use Rattle.desk_core.specs.Servers.{TouchesOnly};
 
 use crate::Memory;
-use crate::server::Server;
 use crate::state::Core;
 use conn_uri::Settings;
 use desk_trail::Room;
 use host_name::Host;
 use net_link::Net;
 use pool_book::PoolRules;
+use server_state::Server;
 use std::alloc::Global;
 
 /// Room for the name of a host.

@@ -2,9 +2,9 @@ ghost use Rattle.std.specs.Prelude.{◌≡◌, false};
 ghost use Rattle.desk_trail.specs.States.{number_of};
 
 use crate::naming::number_from;
-use crate::server::Server;
 use host_name::Host;
 use net_link::Net;
+use server_state::Server;
 use std::marker::Model;
 use time_gossip::TimeGossip;
 use topo_book::TopoBook;

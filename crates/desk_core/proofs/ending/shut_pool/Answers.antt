@@ -10,7 +10,7 @@ use Rattle.desk_core.proofs.ending.shut_pool.Goals as goal
 
 pub append-requires-clause-stands : goal.append-requires-clause-stands
 append-requires-clause-stands g c =
-    let stays : c.args.server.now.has_left ≡ false = sym c.has_left.ensures ∙ c.if-not-has_left.true in (
+    let stays : c.args.server.now.has_left ≡ false = sym c.has_left.ensures.left ∙ c.if-not-has_left.true in (
       fact.PoolShut c.args.host,
       refl,
       StandsAt-shut c.args.wired.now.trail.client c.args.wired.now.trail.point c.args.host c.args.moment c.args.server.now
@@ -37,7 +37,7 @@ returns-then-not-has_left-clause-others g c = λ x h.
 
 pub returns-then-not-has_left-clause-room : goal.returns-then-not-has_left-clause-room
 returns-then-not-has_left-clause-room g c =
-    let stays : c.args.server.now.has_left ≡ false = sym c.has_left.ensures ∙ c.if-not-has_left.true in
+    let stays : c.args.server.now.has_left ≡ false = sym c.has_left.ensures.left ∙ c.if-not-has_left.true in
     let adds = c.append.ensures.adds (fact.PoolShut c.args.host) refl in
     rw stays adds.room_used.steps
 

@@ -18,7 +18,7 @@ begin_on-requires-clause-line g c =
     let h = c.self.invariant.leads ready.runs in
     let there : slice_get c.self.inside.servers.items c.args.host ≡ Some due.0 = ap (λ (s : ClientState). slice_get s.servers c.args.host) (sym h.state) ∙ due.1 in
     let read : c.index.result.now ≡ due.0 = read-there c.self.inside.servers.items c.args.host due.0 c.index.result.now there c.index.ensures in
-    let kept : due.0.check_stream ≡ Some c.in-Some.stream = ap (λ (s : ServerState). s.check_stream) (sym read) ∙ sym c.check_stream.ensures ∙ c.in-Some.is in
+    let kept : due.0.check_stream ≡ Some c.in-Some.stream = ap (λ (s : ServerState). s.check_stream) (sym read) ∙ sym c.check_stream.ensures.stream ∙ c.in-Some.is in
     let line = subst (λ o. HasStream c.self.inside.wired.lines c.args.host due.0.checks.began o) kept (h.kept c.args.host due.0 there).checked in
     rw (← c.self.view_is) (line.0, line.1, line.2, line.3 due.2.rests)
 
@@ -35,7 +35,7 @@ begin_on-requires-in-Some-2-clause-due g c =
     let h = c.self.invariant.leads ready.runs in
     let there : slice_get c.self.inside.servers.items c.args.host ≡ Some due.0 = ap (λ (s : ClientState). slice_get s.servers c.args.host) (sym h.state) ∙ due.1 in
     let read : c.index.result.now ≡ due.0 = read-there c.self.inside.servers.items c.args.host due.0 c.index.result.now there c.index.ensures in
-    let none : due.0.check_stream ≡ None = ap (λ (s : ServerState). s.check_stream) (sym read) ∙ sym c.check_stream.ensures ∙ c.in-None.is in
+    let none : due.0.check_stream ≡ None = ap (λ (s : ServerState). s.check_stream) (sym read) ∙ sym c.check_stream.ensures.stream ∙ c.in-None.is in
     let state : c.dial_check.new.self.trail.point.state ≡ c.self.inside.wired.trail.point.state =
     ap (λ d. d.trail.point.state) c.dial_check.ensures.same ∙ ap (λ d. d.trail.point.state) (sym c.self.view_is) in
     let told = subst
@@ -56,7 +56,7 @@ end_undialled-requires-clause-due g c =
     let h = c.self.invariant.leads ready.runs in
     let there : slice_get c.self.inside.servers.items c.args.host ≡ Some due.0 = ap (λ (s : ClientState). slice_get s.servers c.args.host) (sym h.state) ∙ due.1 in
     let read : c.index.result.now ≡ due.0 = read-there c.self.inside.servers.items c.args.host due.0 c.index.result.now there c.index.ensures in
-    let none : due.0.check_stream ≡ None = ap (λ (s : ServerState). s.check_stream) (sym read) ∙ sym c.check_stream.ensures ∙ c.in-None.is in
+    let none : due.0.check_stream ≡ None = ap (λ (s : ServerState). s.check_stream) (sym read) ∙ sym c.check_stream.ensures.stream ∙ c.in-None.is in
     let state : c.dial_check.new.self.trail.point.state ≡ c.self.inside.wired.trail.point.state =
     ap (λ d. d.trail.point.state) c.dial_check.ensures.same ∙ ap (λ d. d.trail.point.state) (sym c.self.view_is) in
     (due.0, ap (λ (s : ClientState). slice_get s.servers c.args.host) state ∙ due.1, (due.2, none))

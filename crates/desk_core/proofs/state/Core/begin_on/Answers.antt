@@ -154,7 +154,7 @@ invariant_of-self-2 g c =
     let used_then = c.ask.ensures.adds.room_used.steps in
     IsKept-begun r c.append.new.self.trail c.ask.new.self.trail c.reserve.new.self.lines c.ask.new.self.lines c.self.inside.topology.topology c.self.inside.servers.items c.self.inside.gossip
     c.self.inside.standing c.self.inside.last c.args.moment c.args.host c.args.stream c.self.inside.stopped due.0 c.begin_check.new.self line.0 (with_unsent q.bytes line.0) both there
-    due.2.0.stays line_there line.2 now_there line.2 others ready.now (omega arith) (c.begin_check.ensures ∙ ap (check_begins c.args.moment c.args.stream) is) kept
+    due.2.0.stays line_there line.2 now_there line.2 others ready.now (omega arith) (c.begin_check.ensures.begins ∙ ap (check_begins c.args.moment c.args.stream) is) kept
 
 pub returns-clause-ok : goal.returns-clause-ok
 returns-clause-ok g c =
@@ -229,10 +229,10 @@ returns-clause-begins g c =
     let now =
     IsKept-begun r c.append.new.self.trail c.ask.new.self.trail c.reserve.new.self.lines c.ask.new.self.lines c.self.inside.topology.topology c.self.inside.servers.items c.self.inside.gossip
     c.self.inside.standing c.self.inside.last c.args.moment c.args.host c.args.stream c.self.inside.stopped due.0 c.begin_check.new.self line.0 (with_unsent q.bytes line.0) both there
-    due.2.0.stays line_there line.2 now_there line.2 others ready.now (omega arith) (c.begin_check.ensures ∙ ap (check_begins c.args.moment c.args.stream) is) kept in
+    due.2.0.stays line_there line.2 now_there line.2 others ready.now (omega arith) (c.begin_check.ensures.begins ∙ ap (check_begins c.args.moment c.args.stream) is) kept in
     let point : r.point ≡ c.self.inside.wired.trail.point = ap (λ s. s.trail.point) same in
     rw (← c.self.view_is)
     (subst (λ (p : Point). HasBegun p.state c.ask.new.self.trail.point.state c.args.host) point
     (HasBegun-led r c.ask.new.self.trail c.reserve.new.self.lines c.ask.new.self.lines c.self.inside.topology.topology c.self.inside.servers.items c.self.inside.gossip c.self.inside.last
     c.args.moment c.args.host c.args.stream due.0 c.begin_check.new.self (kept.leads ready.runs) (now.leads ready.runs) there
-    (c.begin_check.ensures ∙ ap (check_begins c.args.moment c.args.stream) is) due.2.0.stays))
+    (c.begin_check.ensures.begins ∙ ap (check_begins c.args.moment c.args.stream) is) due.2.0.stays))

@@ -85,7 +85,7 @@ unreachable-requires g c =
     (subst (λ (p : Point). AtServer p.state c.args.host (λ s. (began : ℕ) × Runs began s)) (sym point) runs) in
     let is : c.index-server.result.now ≡ running.server =
     read-there c.self.inside.servers.items c.args.host running.server c.index-server.result.now running.there c.index-server.ensures in
-    let on : c.check_stream.result ≡ Some running.on.stream = c.check_stream.ensures ∙ ap (λ (s : ServerState). s.check_stream) is ∙ running.on.is in
+    let on : c.check_stream.result ≡ Some running.on.stream = c.check_stream.ensures.stream ∙ ap (λ (s : ServerState). s.check_stream) is ∙ running.on.is in
     let since : c.began.result ≡ Some running.since = c.began.ensures.value ∙ ap (λ (s : ServerState). s.checks.began) is ∙ running.runs.since in
     elim c.in_default.branch [
       | in_default-via-in-Some+in_default w ↦ let none = w.in_default.is-1 in absurd (cc)
@@ -106,7 +106,7 @@ drive-requires-clause-there g c =
     (subst (λ (p : Point). AtServer p.state c.args.host (λ s. (began : ℕ) × Runs began s)) (sym point) runs) in
     let d : IsDriven r c.reserve.new.self.lines c.self.inside.servers.items c.args.host c.in-Some-Some.stream c.in-Some-Some.began =
     IsDriven-of r c.reserve.new.self.lines c.self.inside.servers.items c.args.host c.in-Some-Some.stream c.in-Some-Some.began c.index-server.result.now running c.index-server.ensures
-    (sym c.check_stream.ensures ∙ c.in-Some-Some.is-0) (sym c.began.ensures.value ∙ c.in-Some-Some.is-1) in
+    (sym c.check_stream.ensures.stream ∙ c.in-Some-Some.is-0) (sym c.began.ensures.value ∙ c.in-Some-Some.is-1) in
     record { line = d.line; there = d.line_there }
 
 pub invariant_of-self-in-Ok-None : goal.invariant_of-self-in-Ok-None
@@ -123,7 +123,7 @@ invariant_of-self-in-Ok-None g c =
     (subst (λ (p : Point). AtServer p.state c.args.host (λ s. (began : ℕ) × Runs began s)) (sym point) runs) in
     let d : IsDriven r c.reserve.new.self.lines c.self.inside.servers.items c.args.host c.in-Some-Some.stream c.in-Some-Some.began =
     IsDriven-of r c.reserve.new.self.lines c.self.inside.servers.items c.args.host c.in-Some-Some.stream c.in-Some-Some.began c.index-server.result.now running c.index-server.ensures
-    (sym c.check_stream.ensures ∙ c.in-Some-Some.is-0) (sym c.began.ensures.value ∙ c.in-Some-Some.is-1) in
+    (sym c.check_stream.ensures.stream ∙ c.in-Some-Some.is-0) (sym c.began.ensures.value ∙ c.in-Some-Some.is-1) in
     IsKept-still r c.drive.new.wired.trail c.reserve.new.self.lines c.drive.new.wired.lines c.self.inside.topology.topology c.self.inside.servers.items c.self.inside.gossip c.self.inside.standing c.self.inside.last c.args.host c.in-Some-Some.stream c.in-Some-Some.began c.self.inside.stopped d c.drive.ensures.trail c.drive.ensures.others (rw c.in-Ok-None.field-0-is at c.in-Ok-None.ensures.waits) kept
 
 pub index-requires : goal.index-requires
@@ -155,7 +155,7 @@ append-requires-clause-stands g c =
     (subst (λ (p : Point). AtServer p.state c.args.host (λ s. (began : ℕ) × Runs began s)) (sym point) runs) in
     let d : IsDriven r c.reserve.new.self.lines c.self.inside.servers.items c.args.host c.in-Some-Some.stream c.in-Some-Some.began =
     IsDriven-of r c.reserve.new.self.lines c.self.inside.servers.items c.args.host c.in-Some-Some.stream c.in-Some-Some.began c.index-server.result.now running c.index-server.ensures
-    (sym c.check_stream.ensures ∙ c.in-Some-Some.is-0) (sym c.began.ensures.value ∙ c.in-Some-Some.is-1) in
+    (sym c.check_stream.ensures.stream ∙ c.in-Some-Some.is-0) (sym c.began.ensures.value ∙ c.in-Some-Some.is-1) in
     let paid : r.point.owed ≡ [] = ap (λ (p : Point). p.owed) point ∙ ready.paid in
     let ends = rw c.in-Ok-Some.field-0-is at c.in-Ok-Some.ensures.ends in
     let limits : c.limit_of-limit.result ≡ c.in-Some-Some.began + connect_limit r.client = c.limit_of-limit.ensures r.client (sym c.settings.ensures.value) in
@@ -197,7 +197,7 @@ end_check-requires-clause-stays g c =
     (subst (λ (p : Point). AtServer p.state c.args.host (λ s. (began : ℕ) × Runs began s)) (sym point) runs) in
     let d : IsDriven r c.reserve.new.self.lines c.self.inside.servers.items c.args.host c.in-Some-Some.stream c.in-Some-Some.began =
     IsDriven-of r c.reserve.new.self.lines c.self.inside.servers.items c.args.host c.in-Some-Some.stream c.in-Some-Some.began c.index-server.result.now running c.index-server.ensures
-    (sym c.check_stream.ensures ∙ c.in-Some-Some.is-0) (sym c.began.ensures.value ∙ c.in-Some-Some.is-1) in
+    (sym c.check_stream.ensures.stream ∙ c.in-Some-Some.is-0) (sym c.began.ensures.value ∙ c.in-Some-Some.is-1) in
     let is_2 : c.index_mut-server.result.now ≡ d.server =
     read-there c.self.inside.servers.items c.args.host d.server c.index_mut-server.result.now d.there c.index_mut-server.ensures.value in
     ap (λ (s : ServerState). s.has_left) is_2 ∙ d.runs.stays
@@ -216,7 +216,7 @@ end_check-requires-clause-running g c =
     (subst (λ (p : Point). AtServer p.state c.args.host (λ s. (began : ℕ) × Runs began s)) (sym point) runs) in
     let d : IsDriven r c.reserve.new.self.lines c.self.inside.servers.items c.args.host c.in-Some-Some.stream c.in-Some-Some.began =
     IsDriven-of r c.reserve.new.self.lines c.self.inside.servers.items c.args.host c.in-Some-Some.stream c.in-Some-Some.began c.index-server.result.now running c.index-server.ensures
-    (sym c.check_stream.ensures ∙ c.in-Some-Some.is-0) (sym c.began.ensures.value ∙ c.in-Some-Some.is-1) in
+    (sym c.check_stream.ensures.stream ∙ c.in-Some-Some.is-0) (sym c.began.ensures.value ∙ c.in-Some-Some.is-1) in
     let is_2 : c.index_mut-server.result.now ≡ d.server =
     read-there c.self.inside.servers.items c.args.host d.server c.index_mut-server.result.now d.there c.index_mut-server.ensures.value in
     λ n. subst (λ (o : Option ℕ). IsSome o) (sym (ap (λ (s : ServerState). s.checks.began) is_2 ∙ d.runs.since)) refl
@@ -235,7 +235,7 @@ invariant_of-self-in-Ok-Some g c =
     (subst (λ (p : Point). AtServer p.state c.args.host (λ s. (began : ℕ) × Runs began s)) (sym point) runs) in
     let d : IsDriven r c.reserve.new.self.lines c.self.inside.servers.items c.args.host c.in-Some-Some.stream c.in-Some-Some.began =
     IsDriven-of r c.reserve.new.self.lines c.self.inside.servers.items c.args.host c.in-Some-Some.stream c.in-Some-Some.began c.index-server.result.now running c.index-server.ensures
-    (sym c.check_stream.ensures ∙ c.in-Some-Some.is-0) (sym c.began.ensures.value ∙ c.in-Some-Some.is-1) in
+    (sym c.check_stream.ensures.stream ∙ c.in-Some-Some.is-0) (sym c.began.ensures.value ∙ c.in-Some-Some.is-1) in
     let ends = rw c.in-Ok-Some.field-0-is at c.in-Ok-Some.ensures.ends in
     let adds = c.append.ensures.adds (fact.CheckEnded c.args.host c.in-Ok-Some.end.how) refl in
     let more : IsAtLeast (record { names = 0; events = 0; sessions = 0; requests = 0; steps = c.self.inside.standing + 2 }) r.room =
@@ -248,7 +248,7 @@ invariant_of-self-in-Ok-Some g c =
     let lines : c.append.new.self.lines ≡ c.drive.new.wired.lines = ap (λ s. s.lines) c.append.ensures.same in
     let is_3 : c.index.result.now ≡ d.server = read-there c.self.inside.servers.items c.args.host d.server c.index.result.now d.there c.index.ensures in
     let knows : c.is_known-known.result ≡ stands_known c.self.inside.topology.topology d.server.address =
-    c.is_known-known.ensures ∙ ap (stands_known c.self.inside.topology.topology) (c.host-in-Ok-Some.ensures ∙ ap (λ (s : ServerState). s.address) is_3) in
+    c.is_known-known.ensures ∙ ap (stands_known c.self.inside.topology.topology) (c.host-in-Ok-Some.ensures.address ∙ ap (λ (s : ServerState). s.address) is_3) in
     let on : EndsOn c.append.new.self.lines c.args.host c.in-Ok-Some.end.how d.server.check_stream =
     subst (λ (l : Lines). EndsOn l c.args.host c.in-Ok-Some.end.how d.server.check_stream) (sym lines)
     (EndsOn-by c.reserve.new.self.lines c.drive.new.wired.lines c.args.host c.in-Some-Some.stream c.in-Ok-Some.end.how d.server.check_stream d.line d.has d.line_there d.is_for (rw c.in-Ok-Some.field-0-is at c.in-Ok-Some.ensures.kept)) in
@@ -259,7 +259,7 @@ invariant_of-self-in-Ok-Some g c =
     IsKept-ended c.drive.new.wired.trail c.append.new.self.trail c.reserve.new.self.lines c.append.new.self.lines c.self.inside.topology.topology c.self.inside.servers.items c.self.inside.gossip c.self.inside.standing c.self.inside.last c.args.moment c.args.host c.self.inside.stopped c.in-Ok-Some.end.how c.is_known-known.result d.server c.end_check.new.self
     (entry_of.CheckEnded c.args.host c.in-Ok-Some.end.how) adds d.there
     (λ e. absurd (not-undialled c.host.result.now c.in-Some-Some.began c.limit_of-limit.result c.args.moment ends.0 c.in-Ok-Some.end.event c.in-Ok-Some.end.how ends.1 e))
-    on only ready.now (omega arith) knows (c.end_check.ensures ∙ ap (check_ends c.args.moment c.in-Ok-Some.end.how c.is_known-known.result) is_2) kept_2
+    on only ready.now (omega arith) knows (c.end_check.ensures.ends ∙ ap (check_ends c.args.moment c.in-Ok-Some.end.how c.is_known-known.result) is_2) kept_2
 
 pub follow_end-requires-clause-writing : goal.follow_end-requires-clause-writing
 follow_end-requires-clause-writing g c =
@@ -275,7 +275,7 @@ follow_end-requires-clause-writing g c =
     (subst (λ (p : Point). AtServer p.state c.args.host (λ s. (began : ℕ) × Runs began s)) (sym point) runs) in
     let d : IsDriven r c.reserve.new.self.lines c.self.inside.servers.items c.args.host c.in-Some-Some.stream c.in-Some-Some.began =
     IsDriven-of r c.reserve.new.self.lines c.self.inside.servers.items c.args.host c.in-Some-Some.stream c.in-Some-Some.began c.index-server.result.now running c.index-server.ensures
-    (sym c.check_stream.ensures ∙ c.in-Some-Some.is-0) (sym c.began.ensures.value ∙ c.in-Some-Some.is-1) in
+    (sym c.check_stream.ensures.stream ∙ c.in-Some-Some.is-0) (sym c.began.ensures.value ∙ c.in-Some-Some.is-1) in
     let paid : r.point.owed ≡ [] = ap (λ (p : Point). p.owed) point ∙ ready.paid in
     let ends = rw c.in-Ok-Some.field-0-is at c.in-Ok-Some.ensures.ends in
     let adds = c.append.ensures.adds (fact.CheckEnded c.args.host c.in-Ok-Some.end.how) refl in
@@ -285,7 +285,7 @@ follow_end-requires-clause-writing g c =
     let used = adds.room_used.steps in
     let same_room : c.drive.new.wired.trail.room.steps ≡ r.room.steps = ap (λ (x : Recorded). x.room.steps) c.drive.ensures.trail in
     let is : c.index-server.result.now ≡ d.server = read-there c.self.inside.servers.items c.args.host d.server c.index-server.result.now d.there c.index-server.ensures in
-    let host : c.host.result.now ≡ d.server.address = c.host.ensures ∙ ap (λ (s : ServerState). s.address) is in
+    let host : c.host.result.now ≡ d.server.address = c.host.ensures.address ∙ ap (λ (s : ServerState). s.address) is in
     let o : IsOwedBy c.in-Ok-Some.end.how d.server c.in-Ok-Some.end.event =
     IsOwedBy-by c.in-Some-Some.began c.limit_of-limit.result c.args.moment ends.0 c.in-Ok-Some.end.event c.in-Ok-Some.end.how d.server
     (subst (λ a. IsEndBy a c.in-Some-Some.began c.limit_of-limit.result c.args.moment ends.0 c.in-Ok-Some.end.event c.in-Ok-Some.end.how) host ends.1) in (
@@ -379,7 +379,7 @@ returns-in-Ok-None-clause-waits g c =
     (subst (λ (p : Point). AtServer p.state c.args.host (λ s. (began : ℕ) × Runs began s)) (sym point) runs) in
     let d : IsDriven r c.reserve.new.self.lines c.self.inside.servers.items c.args.host c.in-Some-Some.stream c.in-Some-Some.began =
     IsDriven-of r c.reserve.new.self.lines c.self.inside.servers.items c.args.host c.in-Some-Some.stream c.in-Some-Some.began c.index-server.result.now running c.index-server.ensures
-    (sym c.check_stream.ensures ∙ c.in-Some-Some.is-0) (sym c.began.ensures.value ∙ c.in-Some-Some.is-1) in
+    (sym c.check_stream.ensures.stream ∙ c.in-Some-Some.is-0) (sym c.began.ensures.value ∙ c.in-Some-Some.is-1) in
     let limits : c.limit_of-limit.result ≡ c.in-Some-Some.began + connect_limit r.client = c.limit_of-limit.ensures r.client (sym c.settings.ensures.value) in
     let early = rw c.in-Ok-None.field-0-is at c.in-Ok-None.ensures.early in
     subst (λ (t : Recorded). IsAwaited t.client t.point.state c.args.moment c.args.host c.limit_of-limit.result) (sym c.drive.ensures.trail)
@@ -399,11 +399,11 @@ returns-in_ok-follow_end-in-Ok-Some-clause-ends g c =
     (subst (λ (p : Point). AtServer p.state c.args.host (λ s. (began : ℕ) × Runs began s)) (sym point) runs) in
     let d : IsDriven r c.reserve.new.self.lines c.self.inside.servers.items c.args.host c.in-Some-Some.stream c.in-Some-Some.began =
     IsDriven-of r c.reserve.new.self.lines c.self.inside.servers.items c.args.host c.in-Some-Some.stream c.in-Some-Some.began c.index-server.result.now running c.index-server.ensures
-    (sym c.check_stream.ensures ∙ c.in-Some-Some.is-0) (sym c.began.ensures.value ∙ c.in-Some-Some.is-1) in
+    (sym c.check_stream.ensures.stream ∙ c.in-Some-Some.is-0) (sym c.began.ensures.value ∙ c.in-Some-Some.is-1) in
     let ends = rw c.in-Ok-Some.field-0-is at c.in-Ok-Some.ensures.ends in
     let adds = c.append.ensures.adds (fact.CheckEnded c.args.host c.in-Ok-Some.end.how) refl in
     let is : c.index-server.result.now ≡ d.server = read-there c.self.inside.servers.items c.args.host d.server c.index-server.result.now d.there c.index-server.ensures in
-    let host : c.host.result.now ≡ d.server.address = c.host.ensures ∙ ap (λ (s : ServerState). s.address) is in
+    let host : c.host.result.now ≡ d.server.address = c.host.ensures.address ∙ ap (λ (s : ServerState). s.address) is in
     let before : Recorded = c.drive.new.wired.trail in
     let at : slice_get before.point.state.servers c.args.host ≡ Some d.server = ap (λ (t : Recorded). slice_get t.point.state.servers c.args.host) c.drive.ensures.trail ∙ d.at_point in
     let after = c.in_ok-follow_end-in-Ok-Some.ensures in

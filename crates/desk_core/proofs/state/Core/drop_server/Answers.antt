@@ -79,7 +79,7 @@ close_where-requires g c =
     let lines : c.append-2.new.self.lines ≡ c.self.inside.wired.lines = ap (λ s. s.lines) c.append-2.ensures.same ∙ ap (λ s. s.lines) c.append.ensures.same in
     let is : c.index_mut-server.result.now ≡ h.server =
     read-there c.self.inside.servers.items c.args.host h.server c.index_mut-server.result.now h.there c.index_mut-server.ensures.value in
-    let stream : c.check_stream.result ≡ h.server.check_stream = c.check_stream.ensures ∙ ap (λ (s : ServerState). s.check_stream) is in
+    let stream : c.check_stream.result ≡ h.server.check_stream = c.check_stream.ensures.stream ∙ ap (λ (s : ServerState). s.check_stream) is in
     IsThere-checked c.self.inside.wired.lines c.append-2.new.self.lines c.args.host h.server.checks.began h.server.check_stream c.check_stream.result h.kept.checked lines stream
 
 pub leave-requires : goal.leave-requires
@@ -93,8 +93,8 @@ leave-requires g c =
     read-there c.self.inside.servers.items c.args.host h.server c.index_mut-server.result.now h.there c.index_mut-server.ensures.value in
     ap (λ (s : ServerState). s.has_left) is ∙ h.stays
 
-pub shut_pool-requires-clause-open : goal.shut_pool-requires-clause-open
-shut_pool-requires-clause-open g c =
+pub shut_pool-requires : goal.shut_pool-requires
+shut_pool-requires g c =
     let w = rw (← c.self.view_is) at c.requires.writing in
     let stays = rw (← c.self.view_is) at c.requires.stays in
     let h =
@@ -102,18 +102,7 @@ shut_pool-requires-clause-open g c =
     c.self.inside.last c.self.inside.stopped c.args.host c.self.invariant w.2.runs stays in
     let is : c.index_mut-server.result.now ≡ h.server =
     read-there c.self.inside.servers.items c.args.host h.server c.index_mut-server.result.now h.there c.index_mut-server.ensures.value in
-    ap (λ (s : ServerState). is_closed s.pool.state.state) (c.leave.ensures ∙ ap leaves is) ∙ h.kept.is_open h.stays
-
-pub shut_pool-requires-clause-none : goal.shut_pool-requires-clause-none
-shut_pool-requires-clause-none g c =
-    let w = rw (← c.self.view_is) at c.requires.writing in
-    let stays = rw (← c.self.view_is) at c.requires.stays in
-    let h =
-    IsStanding-of c.self.inside.wired.trail c.self.inside.wired.lines c.self.inside.topology.topology c.self.inside.servers.items c.self.inside.gossip c.self.inside.standing
-    c.self.inside.last c.self.inside.stopped c.args.host c.self.invariant w.2.runs stays in
-    let is : c.index_mut-server.result.now ≡ h.server =
-    read-there c.self.inside.servers.items c.args.host h.server c.index_mut-server.result.now h.there c.index_mut-server.ensures.value in
-    ap (λ (s : ServerState). s.pool.state.available) (c.leave.ensures ∙ ap leaves is) ∙ h.kept.none
+    record { is_open = ap (λ (s : ServerState). is_closed s.pool.state.state) (c.leave.ensures.leaves ∙ ap leaves is) ∙ h.kept.is_open h.stays }
 
 pub overflow_sub-self : goal.overflow_sub-self
 overflow_sub-self g c =
@@ -144,10 +133,11 @@ invariant_of-self g c =
     let lines : c.append-2.new.self.lines ≡ c.self.inside.wired.lines = ap (λ s. s.lines) c.append-2.ensures.same ∙ ap (λ s. s.lines) c.append.ensures.same in
     let is : c.index_mut-server.result.now ≡ h.server =
     read-there c.self.inside.servers.items c.args.host h.server c.index_mut-server.result.now h.there c.index_mut-server.ensures.value in
-    let stream : c.check_stream.result ≡ h.server.check_stream = c.check_stream.ensures ∙ ap (λ (s : ServerState). s.check_stream) is in
+    let stream : c.check_stream.result ≡ h.server.check_stream = c.check_stream.ensures.stream ∙ ap (λ (s : ServerState). s.check_stream) is in
     let space = w.2.space in
     let now = w.2.now in
-    let left : c.shut_pool.new.self ≡ dropped c.args.moment h.server = c.shut_pool.ensures ∙ ap (with_pool c.args.moment pool.Shut) (c.leave.ensures ∙ ap leaves is) in
+    let none = ap (λ (s : ServerState). s.pool.state.available) (c.leave.ensures.leaves ∙ ap leaves is) ∙ h.kept.none in
+    let left : c.shut_pool.new.self ≡ dropped c.args.moment h.server = c.shut_pool.ensures.alone none ∙ ap (with_pool c.args.moment pool.Shut) (c.leave.ensures.leaves ∙ ap leaves is) in
     IsKept-dropped c.self.inside.wired.trail c.close_where.new.wired.trail c.self.inside.wired.lines c.close_where.new.wired.lines c.self.inside.topology.topology c.self.inside.servers.items
     c.self.inside.gossip c.self.inside.standing c.self.inside.last c.args.moment c.args.host c.self.inside.stopped h.server c.shut_pool.new.self done h.there h.stays (omega arith)
     (omega arith)
@@ -206,7 +196,7 @@ returns-clause-closed g c =
     c.self.inside.last c.self.inside.stopped c.args.host c.self.invariant w.2.runs stays in
     let is : c.index_mut-server.result.now ≡ h.server =
     read-there c.self.inside.servers.items c.args.host h.server c.index_mut-server.result.now h.there c.index_mut-server.ensures.value in
-    let stream : c.check_stream.result ≡ h.server.check_stream = c.check_stream.ensures ∙ ap (λ (s : ServerState). s.check_stream) is in
+    let stream : c.check_stream.result ≡ h.server.check_stream = c.check_stream.ensures.stream ∙ ap (λ (s : ServerState). s.check_stream) is in
     rw (← c.self.view_is)
     (λ s there.
     let both : Some s ≡ Some h.server = sym there ∙ h.at_point in

@@ -113,7 +113,7 @@ invariant_of-self-2 g c =
     read-there c.self.inside.servers.items c.args.host due.0 c.index_mut-server.result.now there c.index_mut-server.ensures.value in
     let read : c.index-2.result.now ≡ due.0 = read-there c.self.inside.servers.items c.args.host due.0 c.index-2.result.now there c.index-2.ensures in
     let known : c.is_known-known.result ≡ stands_known c.self.inside.topology.topology due.0.address =
-    c.is_known-known.ensures ∙ ap (stands_known c.self.inside.topology.topology) (c.host-2.ensures ∙ ap (λ (s : ServerState). s.address) read) in
+    c.is_known-known.ensures ∙ ap (stands_known c.self.inside.topology.topology) (c.host-2.ensures.address ∙ ap (λ (s : ServerState). s.address) read) in
     let adds = c.append.ensures.adds (fact.CheckEnded c.args.host c.in_ok-end.end.how) refl in
     let more : IsAtLeast (record { names = 0; events = 0; sessions = 0; requests = 0; steps = c.self.inside.standing + 1 }) r.room =
     subst (λ (m : Room). IsAtLeast m r.room) c.in_ok-room.ensures c.in_ok-reserve.ensures.room in
@@ -123,7 +123,7 @@ invariant_of-self-2 g c =
     c.self.inside.standing c.self.inside.last c.args.moment c.args.host c.self.inside.stopped c.in_ok-end.end.how c.is_known-known.result due.0 c.end_check.new.self
     (entry_of.CheckEnded c.args.host c.in_ok-end.end.how) adds there (λ n. due.2.1) (none_kept (ap (λ k. kept_stream k due.0.check_stream) how))
     (all_same (ap (λ s. s.lines) c.append.ensures.same)) ready.now (omega arith) known
-    (c.end_check.ensures ∙ ap (check_ends c.args.moment c.in_ok-end.end.how c.is_known-known.result) is) kept
+    (c.end_check.ensures.ends ∙ ap (check_ends c.args.moment c.in_ok-end.end.how c.is_known-known.result) is) kept
 
 pub offer-requires-clause-writing : goal.offer-requires-clause-writing
 offer-requires-clause-writing g c =
@@ -137,7 +137,7 @@ offer-requires-clause-writing g c =
     let there : slice_get c.self.inside.servers.items c.args.host ≡ Some due.0 = ap (λ (s : ClientState). slice_get s.servers c.args.host) (sym h.state) ∙ due.1 in
     let read : c.index.result.now ≡ due.0 = read-there c.self.inside.servers.items c.args.host due.0 c.index.result.now there c.index.ensures in
     let event : c.in_ok-end.end.event ≡ event_of.Broken due.0.address None =
-    ap (λ e. e.event) c.in_ok-end.ensures ∙ ap (λ a. event_of.Broken a None) (c.host.ensures ∙ ap (λ (s : ServerState). s.address) read) in
+    ap (λ e. e.event) c.in_ok-end.ensures ∙ ap (λ a. event_of.Broken a None) (c.host.ensures.address ∙ ap (λ (s : ServerState). s.address) read) in
     let o = IsOwedBy-broken k due.0 c.in_ok-end.end.event how event in
     let adds = c.append.ensures.adds (fact.CheckEnded c.args.host k) refl in
     let more : IsAtLeast (record { names = 0; events = 0; sessions = 0; requests = 0; steps = c.self.inside.standing + 1 }) r.room =
@@ -184,7 +184,7 @@ returns-clause-ok g c =
     let there : slice_get c.self.inside.servers.items c.args.host ≡ Some due.0 = ap (λ (s : ClientState). slice_get s.servers c.args.host) (sym h.state) ∙ due.1 in
     let read : c.index.result.now ≡ due.0 = read-there c.self.inside.servers.items c.args.host due.0 c.index.result.now there c.index.ensures in
     let event : c.in_ok-end.end.event ≡ event_of.Broken due.0.address None =
-    ap (λ e. e.event) c.in_ok-end.ensures ∙ ap (λ a. event_of.Broken a None) (c.host.ensures ∙ ap (λ (s : ServerState). s.address) read) in
+    ap (λ e. e.event) c.in_ok-end.ensures ∙ ap (λ a. event_of.Broken a None) (c.host.ensures.address ∙ ap (λ (s : ServerState). s.address) read) in
     let o = IsOwedBy-broken k due.0 c.in_ok-end.end.event how event in
     let adds = c.append.ensures.adds (fact.CheckEnded c.args.host k) refl in
     let more : IsAtLeast (record { names = 0; events = 0; sessions = 0; requests = 0; steps = c.self.inside.standing + 1 }) r.room =

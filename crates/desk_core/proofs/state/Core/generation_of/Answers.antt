@@ -23,5 +23,5 @@ returns-in-Some g c =
     let there = at-servers _ _ _ _ _ _ c.in-Some.number f.server l (ap (λ d. slice_get d.trail.point.state.servers c.in-Some.number) c.self.view_is ∙ f.there) in
     let is = slice_get_read c.self.inside.servers.items _ c.in-Some.number c.index.result.now refl (slice_get_within c.self.inside.servers.items c.in-Some.number f.server there) c.index.ensures in
     let same : c.index.result.now ≡ f.server = cc in
-    c.generation.ensures ∙ ap (λ s. s.pool.state.generation) same
+    c.generation.ensures.generation ∙ ap (λ s. s.pool.state.generation) same
     ∙ sym (ap generation_in (ap (option_and_then (slice_get c.args.self.now.trail.point.state.servers)) numbered ∙ f.there))

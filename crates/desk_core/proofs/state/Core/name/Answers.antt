@@ -5,7 +5,7 @@ use Rattle.desk_trail.specs.Legal.{Point}
 use Rattle.desk_trail.specs.States.{fresh_server}
 use Rattle.legal_trail.specs.Recorded.{Recorded}
 use Rattle.desk_core.proofs.AppendsLemmas.{Appends-room}
-use Rattle.desk_core.proofs.KeptLemmas.{IsKept-named, IsKept-room}
+use Rattle.desk_core.proofs.KeptLemmas.{IsKept-named, IsKept-room, StandsAt-named}
 use Rattle.desk_core.proofs.RestLemmas.{KeepsChecks-append}
 use Rattle.desk_core.proofs.ServerLemmas.{IsUntouched-append, standing_within}
 use Rattle.desk_core.proofs.state.Core.name.Goals as goal
@@ -30,6 +30,17 @@ pub returns-in_err-reserve-2-clause-appends : goal.returns-in_err-reserve-2-clau
 returns-in_err-reserve-2-clause-appends g c =
     rw (← c.self.view_is)
     (Appends-room c.args.moment c.self.inside.wired.trail c.reserve.new.self.trail c.reserve.new.self.trail.room (ap (λ s. s.trail) c.reserve.ensures.same))
+
+pub name-requires-clause-stands : goal.name-requires-clause-stands
+name-requires-clause-stands g c =
+    let w = rw (← c.self.view_is) at c.requires.writing in
+    let reserved =
+    IsKept-room c.self.inside.wired c.reserve.new.self c.self.inside.topology.topology c.self.inside.servers.items c.self.inside.gossip c.self.inside.standing c.self.inside.last c.self.inside.stopped
+    c.reserve.ensures.same c.reserve.ensures.kept c.self.invariant in
+    let point : c.reserve.new.self.trail.point ≡ c.self.inside.wired.trail.point = ap (λ s. s.trail.point) c.reserve.ensures.same in
+    StandsAt-named c.reserve.new.self.trail c.reserve.new.self.lines c.self.inside.topology.topology c.self.inside.servers.items c.self.inside.gossip c.self.inside.last c.args.moment
+    c.args.host.now c.in_ok-name.name w.0 (ap (λ (p : Point). p.owed) point ∙ w.2.owes) (ap (λ (p : Point). p.moment) point ∙ w.2.at) c.in_ok-name.ensures.name
+    (reserved.leads w.2.runs)
 
 pub overflow_add-self : goal.overflow_add-self
 overflow_add-self g c =

@@ -31,7 +31,7 @@ ready_pool-requires-clause-writing g c =
     let is = slice_get_read c.self.inside.servers.items _ c.in-Some.number c.index.result.now refl (slice_get_within c.self.inside.servers.items c.in-Some.number f.server there) c.index.ensures in
     let same : c.index.result.now ≡ f.server = cc in
     let paused : is_paused_at c.args.self.now.trail.point.state c.in-Some.number ≡ true =
-    is_paused_at-there c.args.self.now.trail.point.state c.in-Some.number f.server f.there ∙ sym (ap (λ s. is_paused s.pool.state.state) same) ∙ sym c.is_paused.ensures ∙ c.if-is_paused.true in
+    is_paused_at-there c.args.self.now.trail.point.state c.in-Some.number f.server f.there ∙ sym (ap (λ s. is_paused s.pool.state.state) same) ∙ sym c.is_paused.ensures.paused ∙ c.if-is_paused.true in
     (w.0, w.1, subst (λ (xs : List Owed). IsWriting c.args.self.now c.args.moment (w.1 + 1) (xs ++ w.0)) (readied-paused c.args.self.now.trail.point.state _ c.in-Some.number numbered paused) w.2)
 
 pub ready_pool-requires-clause-paused : goal.ready_pool-requires-clause-paused
@@ -44,7 +44,7 @@ ready_pool-requires-clause-paused g c =
     let is = slice_get_read c.self.inside.servers.items _ c.in-Some.number c.index.result.now refl (slice_get_within c.self.inside.servers.items c.in-Some.number f.server there) c.index.ensures in
     let same : c.index.result.now ≡ f.server = cc in
     let paused : is_paused_at c.args.self.now.trail.point.state c.in-Some.number ≡ true =
-    is_paused_at-there c.args.self.now.trail.point.state c.in-Some.number f.server f.there ∙ sym (ap (λ s. is_paused s.pool.state.state) same) ∙ sym c.is_paused.ensures ∙ c.if-is_paused.true in
+    is_paused_at-there c.args.self.now.trail.point.state c.in-Some.number f.server f.there ∙ sym (ap (λ s. is_paused s.pool.state.state) same) ∙ sym c.is_paused.ensures.paused ∙ c.if-is_paused.true in
     paused
 
 pub returns-then-is_paused-clause-writing : goal.returns-then-is_paused-clause-writing
@@ -57,7 +57,7 @@ returns-then-is_paused-clause-writing g c = λ rest n before.
     let is = slice_get_read c.self.inside.servers.items _ c.in-Some.number c.index.result.now refl (slice_get_within c.self.inside.servers.items c.in-Some.number f.server there) c.index.ensures in
     let same : c.index.result.now ≡ f.server = cc in
     let paused : is_paused_at c.args.self.now.trail.point.state c.in-Some.number ≡ true =
-    is_paused_at-there c.args.self.now.trail.point.state c.in-Some.number f.server f.there ∙ sym (ap (λ s. is_paused s.pool.state.state) same) ∙ sym c.is_paused.ensures ∙ c.if-is_paused.true in
+    is_paused_at-there c.args.self.now.trail.point.state c.in-Some.number f.server f.there ∙ sym (ap (λ s. is_paused s.pool.state.state) same) ∙ sym c.is_paused.ensures.paused ∙ c.if-is_paused.true in
     c.ready_pool.ensures.writing rest n
     (subst (λ (xs : List Owed). IsWriting c.args.self.now c.args.moment (n + 1) (xs ++ rest)) (readied-paused c.args.self.now.trail.point.state _ c.in-Some.number numbered paused) before)
 
@@ -71,6 +71,6 @@ returns-else-is_paused-clause-writing g c = λ rest n before.
     let is = slice_get_read c.self.inside.servers.items _ c.in-Some.number c.index.result.now refl (slice_get_within c.self.inside.servers.items c.in-Some.number f.server there) c.index.ensures in
     let same : c.index.result.now ≡ f.server = cc in
     let paused : is_paused_at c.args.self.now.trail.point.state c.in-Some.number ≡ false =
-    is_paused_at-there c.args.self.now.trail.point.state c.in-Some.number f.server f.there ∙ sym (ap (λ s. is_paused s.pool.state.state) same) ∙ sym c.is_paused.ensures ∙ c.if-is_paused.false in
+    is_paused_at-there c.args.self.now.trail.point.state c.in-Some.number f.server f.there ∙ sym (ap (λ s. is_paused s.pool.state.state) same) ∙ sym c.is_paused.ensures.paused ∙ c.if-is_paused.false in
     IsWriting-less _ _ n rest
     (subst (λ (xs : List Owed). IsWriting c.args.self.now c.args.moment (n + 1) (xs ++ rest)) (readied-other c.args.self.now.trail.point.state _ c.in-Some.number numbered paused) before)

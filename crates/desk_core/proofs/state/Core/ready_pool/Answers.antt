@@ -45,7 +45,7 @@ invariant_of-self g c =
     let within = slice_get_within c.self.inside.servers.items c.args.host p.0 there in
     let is = slice_get_read c.self.inside.servers.items _ c.args.host c.index_mut-server.result.now refl within c.index_mut-server.ensures.value in
     let same : c.index_mut-server.result.now ≡ p.0 = cc in
-    let changed : c.ready_pool.new.self ≡ with_pool c.args.moment pool.Ready p.0 = c.ready_pool.ensures ∙ ap (with_pool c.args.moment pool.Ready) same in
+    let changed : c.ready_pool.new.self ≡ with_pool c.args.moment pool.Ready p.0 = c.ready_pool.ensures.ready ∙ ap (with_pool c.args.moment pool.Ready) same in
     IsKept-changed _ _ _ _ _ _ _ _ _ _ c.args.moment c.args.host w.1 _ _ _ p.0 _ c.self.invariant w.2.runs (ap (λ x. x.lines) c.append.ensures.same)
     (c.append.ensures.adds (fact.PoolReady c.args.host) refl) (Changes-ready _ _ _) there changed w.2.now w.2.space
     (IsKeptServer-ready _ _ c.args.moment _ _ (l.kept c.args.host p.0 there))

@@ -1,0 +1,5 @@
+mod CandidateLemmas
+mod CheckedLemmas
+mod KeptLemmas
+mod LookLemmas
+mod NumberLemmas

@@ -1,0 +1,4 @@
+pub mod Inputs
+pub mod Loads
+pub mod Told
+pub mod Waits

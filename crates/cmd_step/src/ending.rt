@@ -1,0 +1,59 @@
+ghost use Rattle.std.specs.Prelude.{◌≡◌, ◌≤◌, true, Some, slice_get};
+ghost use Rattle.write_retry.specs.Machine.{allows};
+ghost use Rattle.desk_trail.specs.declared.entry.Entry.TheVariants as entry_of;
+ghost use Rattle.desk_trail.specs.Attempts.{IsAnswer, IsEnd, end_event};
+ghost use Rattle.desk_trail.specs.Facts as fact;
+ghost use Rattle.desk_trail.specs.Written.{an_entry};
+ghost use Rattle.legal_trail.specs.Recorded.{Adds};
+ghost use Rattle.cmd_step.specs.Ends.{IsBehindRequest, with_it};
+ghost use Rattle.cmd_step.specs.Free.{IsFree};
+
+use cmd_state::RunningCommand;
+use desk_trail::Entry;
+use net_link::Net;
+use wired_trail::WiredTrail;
+use write_retry::{AttemptEnd, Outcome};
+
+/// The attempt of a command ends behind its request: by its reply, or without one. What it owes is an event for the topology, where
+/// the end tells one, and then the check-in of its connection.
+pub fn end_attempt<N: Net>(
+    wired: &mut WiredTrail<N>,
+    moment: u64,
+    op: u32,
+    running: &mut RunningCommand,
+    end: AttemptEnd,
+)
+    requires free { IsFree wired.old.trail.point moment }
+    requires room { 1 ≤ wired.old.trail.room.steps }
+    requires there { slice_get wired.old.trail.point.state.commands op ≡ Some running.old }
+    requires behind { IsBehindRequest end }
+    requires ends { IsEnd wired.old.trail.client moment end running.old }
+    requires awaited { allows running.old.op.next (end_event end) ≡ true }
+    ensures adds { Adds an_entry wired.old.trail.lists moment (entry_of.Ended op end) (fact.Ended op end) wired.old.trail wired.new.trail }
+    ensures same { wired.new ≡ record wired.old { trail = wired.new.trail } }
+    ensures moved { wired.new.trail.point.state ≡ with_it wired.old.trail.point.state op running.new }
+{
+    wired.append(moment, Entry::Ended { op, end });
+    running.end(end);
+}
+
+/// A command is answered by what is to be done next, and holds no connection. What it owes is that its session comes back, where it
+/// holds one.
+pub fn finish<N: Net>(
+    wired: &mut WiredTrail<N>,
+    moment: u64,
+    op: u32,
+    running: &mut RunningCommand,
+    outcome: Outcome,
+)
+    requires free { IsFree wired.old.trail.point moment }
+    requires room { 1 ≤ wired.old.trail.room.steps }
+    requires there { slice_get wired.old.trail.point.state.commands op ≡ Some running.old }
+    requires answers { IsAnswer outcome running.old }
+    ensures adds { Adds an_entry wired.old.trail.lists moment (entry_of.Finished op outcome) (fact.Finished op outcome) wired.old.trail wired.new.trail }
+    ensures same { wired.new ≡ record wired.old { trail = wired.new.trail } }
+    ensures moved { wired.new.trail.point.state ≡ with_it wired.old.trail.point.state op running.new }
+{
+    wired.append(moment, Entry::Finished { op, outcome });
+    running.finish();
+}

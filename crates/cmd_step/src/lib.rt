@@ -1,0 +1,42 @@
+//! What a command does, as entries of the trail: its looks for a server, and its connection (Server Selection; CMAP, Checking Out
+//! a Connection, Checking In a Connection).
+//!
+//! Each call appends entries that may stand, within room that was taken, and moves the command and the servers as `desk_trail`
+//! says that those entries move them: contracts say which entries came, and that the client behind them has the servers and the
+//! command as the call leaves them.
+//!
+//! ```text
+//!   record_look     a look for a server (server_look::look) is written, and moves the command
+//!   enter           the command's ticket joins the line of its server's pool
+//!     sweep         the connections that are available and have perished are shut
+//!     check_out     it is lent one, is refused, has leave to dial one, or waits
+//!   end_attempt     its attempt ended behind its request
+//!   check_in        its connection comes back, and is kept or shut
+//!   finish          it is answered
+//! ```
+//!
+//! Dials, greetings, sessions and requests are not written here yet.
+#![tactic(auto)]
+
+mod answering;
+mod asking;
+mod checking_in;
+mod choosing;
+mod ending;
+mod entering;
+mod got;
+mod looking;
+mod place;
+mod sweeping;
+
+pub use answering::check_out;
+pub use checking_in::{Back, check_in};
+pub use ending::{end_attempt, finish};
+pub use entering::enter;
+pub use got::Answer;
+pub use looking::{Looking, record_look};
+pub use place::At;
+pub use sweeping::sweep;
+
+/// Want of memory, the error of calls that can fail in no other way.
+pub type Memory = std::alloc::AllocError;

@@ -6,7 +6,6 @@ use Rattle.write_retry.specs.Machine.{Op}
 use Rattle.write_retry.specs.declared.events.Next.{Next}
 use Rattle.write_retry.specs.declared.events.Next.TheVariants as next
 use Rattle.write_retry.specs.declared.outcome.Outcome.{Outcome}
-use Rattle.sess_book.specs.declared.lease.Lease.{Lease}
 use Rattle.desk_trail.specs.States as state
 use Rattle.desk_trail.specs.States.{CommandState}
 use Rattle.cmd_state.specs.declared.check_out.CheckOut.{CheckOut}
@@ -37,7 +36,7 @@ command_of c = record {
   tried = option_to_list c.first_tried ++ option_to_list c.second_tried;
   check_out = check_out_of c.check_out;
   asked = c.asked;
-  session = option_map (λ (l : Lease). l.place) c.lease;
+  session = c.session;
   number = c.number;
   is_dirty = c.is_dirty;
   is_finished = c.is_finished;

@@ -1,15 +1,13 @@
 ghost use Rattle.std.specs.Prelude.{◌≡◌, None, Some};
-ghost use Rattle.std.specs.Option.{option_map};
 
 use crate::RunningCommand;
-use sess_book::Lease;
 
 impl RunningCommand {
-    /// It holds a session from here on (Driver Sessions, implicit sessions).
-    pub fn hold(&mut self, lease: Lease)
-        ensures holds { self.new ≡ record self.old { session = Some lease.place } }
+    /// It holds the session at that place from here on (Driver Sessions, implicit sessions).
+    pub fn hold(&mut self, place: usize)
+        ensures holds { self.new ≡ record self.old { session = Some place } }
     {
-        self.lease = Some(lease);
+        self.session = Some(place);
     }
 
     /// It drew a transaction number (Retryable Writes, txnNumber).
@@ -19,11 +17,11 @@ impl RunningCommand {
         self.number = Some(number);
     }
 
-    /// The session that it holds, which it holds no more; None where it has none.
-    pub fn give_back(&mut self) -> Option<Lease>
-        ensures lease { option_map (λ l. l.place) result ≡ self.old.session }
+    /// The place of the session that it holds, which it holds no more; None where it has none.
+    pub fn give_back(&mut self) -> Option<usize>
+        ensures session { result ≡ self.old.session }
         ensures left { self.new ≡ record self.old { session = None } }
     {
-        self.lease.take()
+        self.session.take()
     }
 }

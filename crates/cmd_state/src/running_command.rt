@@ -7,7 +7,6 @@ ghost use Rattle.cmd_state.specs.Inside.{check_out_of, selected_of, selection_of
 
 use crate::{CheckOut, Selected, Selection};
 use cmd_build::{Command, is_retryable, is_write};
-use sess_book::Lease;
 use std::marker::Model;
 use write_retry::{Next, OpMachine};
 
@@ -21,7 +20,7 @@ pub struct RunningCommand {
     pub(crate) second_tried: Option<u32>,
     pub(crate) check_out: CheckOut,
     pub(crate) asked: Option<u64>,
-    pub(crate) lease: Option<Lease>,
+    pub(crate) session: Option<usize>,
     pub(crate) number: Option<i64>,
     pub(crate) is_dirty: bool,
     pub(crate) is_finished: bool,
@@ -51,7 +50,7 @@ impl RunningCommand {
             second_tried: None,
             check_out: CheckOut::Nothing,
             asked: None,
-            lease: None,
+            session: None,
             number: None,
             is_dirty: false,
             is_finished: false,
@@ -103,11 +102,11 @@ impl RunningCommand {
         self.asked
     }
 
-    /// The session that it holds.
-    pub fn lease(&self) -> Option<&Lease>
-        ensures session { option_map (λ l. l.now.place) result ≡ self.now.session }
+    /// The place of the session that it holds.
+    pub fn session(&self) -> Option<usize>
+        ensures session { result ≡ self.now.session }
     {
-        self.lease.as_ref()
+        self.session
     }
 
     /// Its transaction number, where it drew one.
@@ -145,7 +144,7 @@ impl RunningCommand {
     pub fn minutes_needed(&self) -> Option<i64>
         ensures minutes { result ≡ minutes_needed self.now }
     {
-        if self.lease.is_some() {
+        if self.session.is_some() {
             return None;
         }
         match &self.selected {

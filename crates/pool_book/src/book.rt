@@ -7,7 +7,7 @@ use crate::available_list::AvailableList;
 use crate::held_list::HeldList;
 use crate::last_rows::LastRows;
 use crate::ticket_line::TicketLine;
-use crate::{Available, PoolRules, PoolState, Ticket};
+use crate::{Available, Held, PoolRules, PoolState, Ticket};
 use std::alloc::Global;
 use std::marker::Model;
 
@@ -123,16 +123,28 @@ impl PoolBook {
     pub fn is_pending(&self, conn: u64) -> bool
         ensures { result ≡ is_some (held_of conn self.now.pending) }
     {
-        self.pending
-            .find(conn, self.last_rows.row_of(conn))
-            .is_some()
+        self.find_pending(conn).is_some()
     }
 
     /// Whether the connection is lent.
     pub fn is_lent(&self, conn: u64) -> bool
         ensures { result ≡ is_some (held_of conn self.now.lent) }
     {
-        self.lent.find(conn, self.last_rows.row_of(conn)).is_some()
+        self.find_lent(conn).is_some()
+    }
+
+    /// A connection that is pending, with its ticket and its generation; None where it is not.
+    pub fn find_pending(&self, conn: u64) -> Option<Held>
+        ensures held { result ≡ held_of conn self.now.pending }
+    {
+        self.pending.find(conn, self.last_rows.row_of(conn))
+    }
+
+    /// A connection that is lent, with its ticket and its generation; None where it is not.
+    pub fn find_lent(&self, conn: u64) -> Option<Held>
+        ensures held { result ≡ held_of conn self.now.lent }
+    {
+        self.lent.find(conn, self.last_rows.row_of(conn))
     }
 
     /// Makes a paused pool ready (CMAP, Marking a Connection Pool as Ready). Another pool stays as it is.

@@ -1,6 +1,6 @@
 -- How many wait, and how many were dialled, behind what a pool does.
 use Rattle.std.proofs.Common.{◌≡◌, ◌==◌, refl, ap, sym, subst, ◌∙◌, arith, ℕ, ◌+◌, ◌-◌, ◌≤◌, ◌⊎◌, inl, inr, Bool, true, false, List, [], ◌∷◌, ◌++◌, length, Option, None, IsSome, Some}
-use Rattle.std.specs.Prelude.{vec_capacity}
+use Rattle.std.specs.Prelude.{slice_get, vec_capacity}
 use Rattle.std.proofs.lemmas.List.{length-append}
 use Rattle.pool_book.specs.declared.connections.Held.{Held}
 use Rattle.pool_book.specs.declared.answers.Take.{Take}
@@ -16,7 +16,8 @@ use Rattle.server_state.specs.Inside.{IsKept, state_of, streams_from}
 use Rattle.server_state.specs.PoolMoves.{AnswersBy, MovesBy}
 use Rattle.server_state.specs.declared.server.Server.TheInside.{Inside}
 use Rattle.server_state.proofs.MoveLemmas.{IsKept-pool, with_book}
-use Rattle.server_state.proofs.StreamLemmas.{streams_from-more}
+use Rattle.std.specs.Option.{option_and_then}
+use Rattle.server_state.proofs.StreamLemmas.{kept_of, kept_of-place, streams_from-more}
 
 settled-waiting : (p : Pool) (moment number conn : ℕ) (stale : Bool) → (after p moment (Settled number conn stale)).waiting ≡ p.waiting
 settled-waiting p moment number conn true = refl
@@ -85,3 +86,16 @@ IsKept-dial s q moment number conn k there goes =
 
 pub AnswersBy-dial : (moment number conn : ℕ) (r : Take) (old new : ServerState) → r ≡ take_of.Dial conn → MovesBy moment (Dialled number conn) old new → AnswersBy moment number r old new
 AnswersBy-dial moment number conn r old new e m = subst (λ x. AnswersBy moment number x old new) (sym e) m
+
+last-there : {A : Type 0} (xs : List A) (x : A) → slice_get (xs ++ x ∷ []) (length xs) ≡ Some x
+last-there [] x = refl
+last-there (y ∷ ys) x = last-there ys x
+
+-- the connection is the one that was dialled last, and has no stream yet
+pub streamless : (s : Inside) (q : Pool) (moment number conn : ℕ) (os : List (Option ℕ)) → IsKept s → Goes s.pool moment (Dialled number conn) q →
+    os ≡ s.streams.items ++ None ∷ [] → (conn ≡ q.dialled) × (kept_of conn (streams_from 1 os []) ≡ None)
+streamless s q moment number conn os k goes items =
+    let at : conn ≡ length s.streams.items + 1 = goes.stands.5 ∙ ap (λ n. n + 1) (sym k.dialled) in
+    let empty : kept_of (length s.streams.items + 1) (streams_from 1 (s.streams.items ++ None ∷ []) []) ≡ None =
+    kept_of-place (length s.streams.items) (s.streams.items ++ None ∷ []) ∙ ap (option_and_then (λ o. o)) (last-there s.streams.items None) in
+    (sym (ap (λ (p : Pool). p.dialled) goes.moves), ap (λ n. kept_of n (streams_from 1 os [])) at ∙ ap (λ xs. kept_of (length s.streams.items + 1) (streams_from 1 xs [])) items ∙ empty)

@@ -1,6 +1,6 @@
 //! A server's connections: a command enters the pool's line, is answered, dials, has the connection established and gives it
 //! back (CMAP, Checking Out a Connection, Establishing a Connection, Checking In a Connection).
-ghost use Rattle.std.specs.Prelude.{◌≡◌, ◌+◌, ◌<◌, ◌≤◌, ◌-◌, ◌^◌, true, None, Some, ◌∷◌, length, IfNone, IfOk, IfSome, IsSome, OnErr, OnOk, OnSome};
+ghost use Rattle.std.specs.Prelude.{◌≡◌, ℕ, ◌+◌, ◌<◌, ◌≤◌, ◌-◌, ◌^◌, true, None, Some, ◌∷◌, length, IfNone, IfOk, IfSome, IsSome, OnErr, OnOk, OnSome};
 ghost use Rattle.pool_book.specs.Answers.{answer_due, fate_answer, settled_answer, swept_answer};
 ghost use Rattle.pool_book.specs.declared.connections.Held.{Held};
 ghost use Rattle.pool_book.specs.declared.ticket.Ticket.{Ticket as TicketState};
@@ -44,6 +44,7 @@ impl Server {
         ensures answer { (t : TicketState) → ticket_of ticket.now.number self.old.pool.state.waiting ≡ Some t
             → result ≡ answer_due self.old.pool.state moment t }
         ensures goes { AnswersBy moment ticket.now.number result self.old self.new }
+        ensures streamless { (conn : ℕ) → result ≡ Take.Dial conn → (conn ≡ self.new.pool.state.dialled) × (stream_of self.new conn ≡ None) }
     {
         let answer = self.pool.try_take(ticket, moment);
         match answer {

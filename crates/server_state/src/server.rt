@@ -1,14 +1,14 @@
 ghost use Rattle.std.specs.Prelude.{◌≡◌, ◌≤◌, ◌^◌, ◌&&◌, ◌==◌, [], find, not, false, is_some};
 ghost use Rattle.std.specs.Option.{option_map};
 ghost use Rattle.host_name.specs.Addresses.{is_same_address};
-ghost use Rattle.pool_book.specs.Pool.{held_of, is_paused, ticket_of};
+ghost use Rattle.pool_book.specs.Pool.{held_of, is_closed, is_paused, ticket_of};
 ghost use Rattle.watch_step.specs.Checks.{IsInRange};
 ghost use Rattle.desk_trail.specs.Clients.{Client, beat, pool_rules};
 ghost use Rattle.desk_trail.specs.States.{fresh_server, stream_of};
 ghost use Rattle.server_state.specs.Inside.{streams_from};
 
 use host_name::Host;
-use pool_book::{Available, PoolBook, PoolRules, PoolState, Ticket};
+use pool_book::{Available, Held, PoolBook, PoolRules, PoolState, Ticket};
 use std::alloc::Global;
 use std::marker::Model;
 use watch_step::Watch;
@@ -109,6 +109,13 @@ impl Server {
         self.pool.state() == PoolState::Paused
     }
 
+    /// Whether its pool is closed.
+    pub fn is_closed(&self) -> bool
+        ensures closed { result ≡ is_closed self.now.pool.state.state }
+    {
+        self.pool.state() == PoolState::Closed
+    }
+
     /// The connections of its pool that are available, in the order in which they were checked in.
     pub fn available(&self) -> &[Available]
         ensures available { result.now ≡ self.now.pool.state.available }
@@ -142,6 +149,20 @@ impl Server {
         ensures lent { result ≡ is_some (held_of conn self.now.pool.state.lent) }
     {
         self.pool.is_lent(conn)
+    }
+
+    /// A connection that was dialled and is not established yet, with its ticket and its generation; None where it is not.
+    pub fn find_pending(&self, conn: u64) -> Option<Held>
+        ensures held { result ≡ held_of conn self.now.pool.state.pending }
+    {
+        self.pool.find_pending(conn)
+    }
+
+    /// A connection that is lent, with its ticket and its generation; None where it is not.
+    pub fn find_lent(&self, conn: u64) -> Option<Held>
+        ensures held { result ≡ held_of conn self.now.pool.state.lent }
+    {
+        self.pool.find_lent(conn)
     }
 
     /// The stream of a connection of its pool; None of a number that was not dialled, and where the dial failed.

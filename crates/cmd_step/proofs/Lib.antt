@@ -1,7 +1,12 @@
 mod CheckInLemmas
+mod ClosedLemmas
+mod DialLemmas
 mod EndLemmas
 mod ListLemmas
+mod LossLemmas
 mod MoveLemmas
 mod PlaceLemmas
 mod RefusalLemmas
+mod SettleLemmas
+mod StepLemmas
 mod SweepLemmas

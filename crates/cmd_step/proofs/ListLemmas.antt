@@ -15,6 +15,11 @@ set-twice [] k x y = refl
 set-twice (z ∷ zs) zero x y = refl
 set-twice (z ∷ zs) (suc k) x y = ap (λ v. z ∷ v) (set-twice zs k x y)
 
+pub set-itself : {A : Type 0} (xs : List A) (k : ℕ) (x : A) → slice_get xs k ≡ Some x → slice_set xs k x ≡ xs
+set-itself [] k x h = absurd (cc)
+set-itself (z ∷ zs) zero x h = let same : x ≡ z = (cc) in ap (λ y. y ∷ zs) same
+set-itself (z ∷ zs) (suc k) x h = ap (λ ys. z ∷ ys) (set-itself zs k x h)
+
 pub changed-there : {A : Type 0} (xs : List A) (k : ℕ) (x : A) (f : A → A) → slice_get xs k ≡ Some x → changed xs k f ≡ slice_set xs k (f x)
 changed-there xs k x f h = ap (λ o. changed_at xs k o f) h
 

@@ -67,7 +67,7 @@ behind-entered client w at ticket s t c d places idle server command =
 same-host : (n : ℕ) → (n == n) ≡ true
 same-host n = eq-eqb n n refl
 
-ticketed : (w : ClientState) (at : At) (ticket : ℕ) (c : CommandState) (e : ℕ → PoolEntry) → slice_get w.commands at.op ≡ Some c → c.check_out ≡ Waits at.host ticket →
+pub ticketed : (w : ClientState) (at : At) (ticket : ℕ) (c : CommandState) (e : ℕ → PoolEntry) → slice_get w.commands at.op ≡ Some c → c.check_out ≡ Waits at.host ticket →
     at_host at.host (option_map e (option_and_then (ticket_with at.host) (check_out_of w at.op))) ≡ Some (at.host, e ticket)
 ticketed w at ticket c e there waits =
     ap (λ (o : Option CommandState). at_host at.host (option_map e (option_and_then (ticket_with at.host) (option_map (λ (d : CommandState). d.check_out) o)))) there

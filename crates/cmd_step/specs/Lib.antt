@@ -1,8 +1,13 @@
 pub mod Answers
 pub mod CheckIns
+pub mod Closed
+pub mod Dials
 pub mod Ends
 pub mod Free
 pub mod Looked
+pub mod Losses
 pub mod Places
 pub mod Refusals
+pub mod Settlings
 pub mod Sweeps
+pub mod Times

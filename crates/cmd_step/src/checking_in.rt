@@ -1,13 +1,16 @@
-ghost use Rattle.std.specs.Prelude.{◌≡◌, ◌≤◌, []};
+ghost use Rattle.std.specs.Prelude.{◌≡◌, ◌≤◌, [], IfSome};
+ghost use Rattle.desk_trail.specs.States.{stream_of};
+ghost use Rattle.wired_trail.specs.declared.stream_use.StreamUse.TheVariants as for_use;
+ghost use Rattle.cmd_step.specs.Closed.{ClosesOnly, IsUnused};
 ghost use Rattle.cmd_step.specs.CheckIns.{ComesBack, HasLent, IsToComeBack};
 ghost use Rattle.cmd_step.specs.Places.{AreAt};
 
 use crate::At;
-use crate::sweeping::close_conn;
+use crate::closing::close_conn;
 use cmd_state::RunningCommand;
 use desk_trail::Entry;
 use net_link::Net;
-use pool_book::Fate;
+use pool_book::{CloseReason, Fate};
 use server_state::Server;
 use wired_trail::WiredTrail;
 
@@ -36,6 +39,10 @@ pub fn check_in<N: Net>(
     requires lent { HasLent at back server.old running.old }
     ensures back { ComesBack at back result wired.old.trail wired.new.trail server.new running.new }
     ensures idle { server.new.pool.owed ≡ [] }
+    ensures closes { ClosesOnly (λ u. u ≡ for_use.Conn at.host back.conn) wired.old.lines wired.new.lines }
+    ensures kept { result ≡ Fate.Kept → wired.new.lines ≡ wired.old.lines }
+    ensures gone { (reason : CloseReason) → result ≡ Fate.Shut reason
+        → IfSome (stream_of server.new back.conn) (λ stream. IsUnused wired.new.lines stream (for_use.Conn at.host back.conn)) }
     ensures faults { N.faults wired.old.net ≤ N.faults wired.new.net }
 {
     let fate = server.check_in(back.conn, at.moment, back.errored);
@@ -61,6 +68,6 @@ pub fn check_in<N: Net>(
             reason,
         },
     );
-    close_conn(wired, server, back.conn);
+    close_conn(wired, at.host, server, back.conn);
     Fate::Shut(reason)
 }

@@ -5,14 +5,15 @@ ghost use Rattle.desk_trail.specs.Attempts.{IsAnswer, IsEnd, end_event};
 ghost use Rattle.desk_trail.specs.Facts as fact;
 ghost use Rattle.desk_trail.specs.Written.{an_entry};
 ghost use Rattle.legal_trail.specs.Recorded.{Adds};
-ghost use Rattle.cmd_step.specs.Ends.{IsBehindRequest, with_it};
+ghost use Rattle.write_retry.specs.declared.events.OpEvent.TheVariants as event;
+ghost use Rattle.cmd_step.specs.Ends.{IsBehindRequest, with_it, without_connection};
 ghost use Rattle.cmd_step.specs.Free.{IsFree};
 
 use cmd_state::RunningCommand;
 use desk_trail::Entry;
 use net_link::Net;
 use wired_trail::WiredTrail;
-use write_retry::{AttemptEnd, Outcome};
+use write_retry::{AttemptEnd, Outcome, Unsent};
 
 /// The attempt of a command ends behind its request: by its reply, or without one. What it owes is an event for the topology, where
 /// the end tells one, and then the check-in of its connection.
@@ -35,6 +36,15 @@ pub fn end_attempt<N: Net>(
 {
     wired.append(moment, Entry::Ended { op, end });
     running.end(end);
+}
+
+/// A command gets no connection: it is with no pool any more, and its attempt ends.
+pub fn end_unsent(running: &mut RunningCommand, why: Unsent)
+    requires awaited { allows running.old.op.next (event.Unsent why) ≡ true }
+    ensures ended { running.new ≡ without_connection why running.old }
+{
+    running.leave_pool();
+    running.end(AttemptEnd::Unsent(why));
 }
 
 /// A command is answered by what is to be done next, and holds no connection. What it owes is that its session comes back, where it

@@ -7,8 +7,10 @@ pub enum Answer {
     Lent { conn: u64 },
     /// None: its attempt ended.
     Refused { why: Unsent },
-    /// Leave to dial this connection, which is pending from now on.
-    Dial { conn: u64 },
+    /// A new one, which is pending until its greeting, the request of that id, is answered.
+    Dials { conn: u64, hello: i32 },
+    /// None, since the net gave no stream for a new one: its attempt ended.
+    Failed { conn: u64 },
     /// Nothing yet.
     Wait,
 }

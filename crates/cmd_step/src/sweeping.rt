@@ -1,4 +1,4 @@
-ghost use Rattle.std.specs.Prelude.{◌≡◌, ◌≤◌, [], true, None, Some, IfSome, length, slice_get};
+ghost use Rattle.std.specs.Prelude.{◌≡◌, ◌≤◌, [], true, Some, IfSome, length, slice_get};
 ghost use Rattle.pool_book.specs.Entries as pool;
 ghost use Rattle.pool_book.specs.Pool.{is_swept};
 ghost use Rattle.desk_trail.specs.declared.entry.Entry.TheVariants as entry_of;
@@ -7,37 +7,17 @@ ghost use Rattle.desk_trail.specs.States.{ServerState, stream_of};
 ghost use Rattle.desk_trail.specs.Written.{an_entry};
 ghost use Rattle.legal_trail.specs.Recorded.{Adds};
 ghost use Rattle.server_state.specs.PoolMoves.{MovesBy};
-ghost use Rattle.wired_trail.specs.Lines.{line_at};
+ghost use Rattle.wired_trail.specs.declared.stream_use.StreamUse.TheVariants as for_use;
+ghost use Rattle.cmd_step.specs.Closed.{ClosesOnly, IsUnused};
 ghost use Rattle.cmd_step.specs.Free.{IsFree};
-ghost use Rattle.cmd_step.specs.Sweeps.{IsSweeping, with_one};
+ghost use Rattle.cmd_step.specs.Sweeps.{AreUnused, IsOfConn, IsSweeping, with_one};
 
+use crate::closing::close_conn;
 use desk_trail::Entry;
 use net_link::Net;
 use pool_book::Swept;
 use server_state::Server;
 use wired_trail::WiredTrail;
-
-/// Closes a stream, where it is in use.
-fn close_where<N: Net>(wired: &mut WiredTrail<N>, stream: u64)
-    ensures trail { wired.new.trail ≡ wired.old.trail }
-    ensures gone { line_at wired.new.lines stream ≡ None }
-    ensures faults { N.faults wired.old.net ≤ N.faults wired.new.net }
-{
-    if wired.use_of(stream).is_some() {
-        wired.close(stream);
-    }
-}
-
-/// Closes the stream of a connection.
-pub fn close_conn<N: Net>(wired: &mut WiredTrail<N>, server: &Server, conn: u64)
-    ensures trail { wired.new.trail ≡ wired.old.trail }
-    ensures gone { IfSome (stream_of server.now conn) (λ stream. line_at wired.new.lines stream ≡ None) }
-    ensures faults { N.faults wired.old.net ≤ N.faults wired.new.net }
-{
-    if let Some(stream) = server.stream_of(conn) {
-        close_where(wired, stream);
-    }
-}
 
 /// A connection that its pool took out of the available ones is shut, and its stream closed.
 fn shut<N: Net>(wired: &mut WiredTrail<N>, server: &Server, host: u32, moment: u64, swept: Swept)
@@ -48,7 +28,8 @@ fn shut<N: Net>(wired: &mut WiredTrail<N>, server: &Server, host: u32, moment: u
     ensures adds { Adds an_entry wired.old.trail.lists moment (entry_of.ConnShut host swept.conn swept.reason) (fact.ConnShut host swept.conn swept.reason)
         wired.old.trail wired.new.trail }
     ensures moved { wired.new.trail.point.state ≡ with_one wired.old.trail.point.state host server.now }
-    ensures gone { IfSome (stream_of server.now swept.conn) (λ stream. line_at wired.new.lines stream ≡ None) }
+    ensures closes { ClosesOnly (λ u. u ≡ for_use.Conn host swept.conn) wired.old.lines wired.new.lines }
+    ensures gone { IfSome (stream_of server.now swept.conn) (λ stream. IsUnused wired.new.lines stream (for_use.Conn host swept.conn)) }
     ensures faults { N.faults wired.old.net ≤ N.faults wired.new.net }
 {
     wired.append(
@@ -59,7 +40,7 @@ fn shut<N: Net>(wired: &mut WiredTrail<N>, server: &Server, host: u32, moment: u
             reason: swept.reason,
         },
     );
-    close_conn(wired, server, swept.conn);
+    close_conn(wired, host, server, swept.conn);
 }
 
 /// Shuts the connections of a server's pool that are available and have perished, within room that was taken for each (CMAP,
@@ -71,6 +52,8 @@ pub fn sweep<N: Net>(wired: &mut WiredTrail<N>, server: &mut Server, host: u32, 
     requires idle { server.old.pool.owed ≡ [] }
     ensures swept { is_swept server.new.pool.state moment ≡ true }
     ensures goes { IsSweeping host moment wired.old.trail wired.new.trail server.old server.new }
+    ensures closes { ClosesOnly (IsOfConn host) wired.old.lines wired.new.lines }
+    ensures gone { AreUnused host wired.new.lines server.old server.new }
     ensures faults { N.faults wired.old.net ≤ N.faults wired.new.net }
 {
     'sweeping: while let Some(swept) = server.sweep(moment) {

@@ -1,0 +1,4 @@
+mod KeptLemmas
+mod StepLemmas
+mod TakenLemmas
+mod WriteLemmas

@@ -1,0 +1,4 @@
+pub mod Inside
+pub mod Takes
+pub mod Choices
+pub mod Moves

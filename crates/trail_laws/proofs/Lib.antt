@@ -1,0 +1,7 @@
+mod ListLemmas
+mod OwedLemmas
+mod ServerLemmas
+mod HostLemmas
+mod CommandLemmas
+mod SelectionLemmas
+mod WaitLemmas

@@ -1,0 +1,8 @@
+//! Laws of legal trails on which a client's core stands, beside those of `desk_trail`: what holds of each point to which one leads.
+//!
+//! - [`hosts`]: each host of the topology has its number (SDAM, Updating the TopologyDescription).
+//! - [`commands`]: what a command waits for, and since when (Server Selection; CMAP, Checking Out a Connection).
+#![tactic(auto)]
+
+pub mod commands;
+pub mod hosts;

@@ -17,8 +17,7 @@ use Rattle.topo_rules.specs.Maps.{ServerMap}
 use Rattle.topo_rules.specs.Rules.{event_host}
 use Rattle.topo_rules.proofs.HostTables.{in_order}
 use Rattle.topo_rules.proofs.Tabulate.{get_at}
-use Rattle.topo_book.specs.Fresh.{by_kept, by_version}
-use Rattle.topo_book.specs.declared.verdict.Verdict.{Verdict}
+use Rattle.topo_book.specs.Fresh.{by_kept}
 use Rattle.topo_book.specs.declared.verdict.Verdict.TheVariants as verdict
 use Rattle.desk_core.specs.Follows.{AreApart, AreNone, IsNone, IsNoneOf}
 

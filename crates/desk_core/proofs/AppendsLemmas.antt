@@ -1,18 +1,34 @@
 -- A trail that is only appended to: by nothing, by one entry, and step by step.
-use Rattle.std.proofs.Common.{◌≡◌, ◌≤◌, ℕ, Bool, true, false, ◌||◌, List, [], ◌∷◌, ◌++◌, length, refl, sym, ap, ◌∙◌, append_assoc, arith}
+use Rattle.std.proofs.Common.{◌≡◌, ◌≤◌, ℕ, ◌+◌, Bool, true, false, ◌||◌, List, [], ◌∷◌, ◌++◌, length, Option, None, Some, refl, sym, ap, ◌∙◌, append_assoc, arith}
+use Rattle.std.specs.Prelude.{slice_get, if◌then◌else◌}
+use Rattle.std.specs.Option.{option_and_then}
 use Rattle.std.proofs.lemmas.List.{append-nil, length-append}
 use Rattle.std.proofs.lemmas.List.Folds.{list_any-append}
 use Rattle.std.proofs.lemmas.List.Elements.{All-append, All-nil, All-cons}
 use Rattle.host_name.specs.Addresses.{Address}
+use Rattle.pool_book.specs.declared.answers.CloseReason.{CloseReason}
 use Rattle.topo_rules.specs.declared.event.TopoEvent.{TopoEvent}
+use Rattle.topo_rules.specs.declared.topology.Topology.{Topology}
+use Rattle.topo_book.specs.Fresh.{is_accepted_verdict}
+use Rattle.desk_trail.specs.declared.entry.CheckHow.{CheckHow}
 use Rattle.desk_trail.specs.declared.entry.Entry.{Entry}
 use Rattle.desk_trail.specs.declared.request.Request.{Request}
+use Rattle.desk_trail.specs.declared.request.Purpose.{Purpose}
+use Rattle.desk_trail.specs.declared.request.Purpose.TheVariants as purpose
 use Rattle.desk_trail.specs.declared.room.Room.{Room}
 use Rattle.desk_trail.specs.declared.step.Step.{Step}
+use Rattle.desk_trail.specs.Attempts.{asked_by, asked_event, commands_after}
+use Rattle.desk_trail.specs.Checks.{check_begins, kept_at, stream_taken}
+use Rattle.desk_trail.specs.Clients.{Client}
 use Rattle.desk_trail.specs.Facts.{Fact, Lists}
+use Rattle.desk_trail.specs.Facts as fact
+use Rattle.desk_trail.specs.Legal.{Point, client_after, pool_after, stays_at}
+use Rattle.desk_trail.specs.Requests.{farewell_by}
+use Rattle.desk_trail.specs.States.{ClientState, number_of, with_server}
+use Rattle.desk_trail.specs.Topologies.{asked_at, asks_of, offered_after, topology_after, verdict_on, with_ask}
 use Rattle.desk_trail.specs.Written.{step_of}
 use Rattle.legal_trail.specs.Recorded.{Adds, Recorded}
-use Rattle.desk_core.specs.Appends.{Appends, IsLonger, tell_fault, tells_fault}
+use Rattle.desk_core.specs.Appends.{Appends, AppendsAside, IsLonger, KeepsCommands, tell_fault, tells_fault}
 
 -- ---- Lists that are longer
 
@@ -34,8 +50,8 @@ IsLonger-length xs ys a = rw (a.grows, length-append xs a.more) (omega arith)
 -- ---- Trails
 
 -- by nothing, where all but the room stays
-pub Appends-same : {R : Type 0} (moment : ℕ) (old new : Recorded) → new.client ≡ old.client → new.lists ≡ old.lists → new.steps ≡ old.steps → Appends R moment old new
-Appends-same {R} moment old new client lists steps = record {
+grown-same : {R : Type 0} (moment : ℕ) (old new : Recorded) → new.client ≡ old.client → new.lists ≡ old.lists → new.steps ≡ old.steps → Appends R moment old new
+grown-same {R} moment old new client lists steps = record {
   client = client;
   added = [];
   steps = steps ∙ sym (append-nil old.steps);
@@ -47,20 +63,13 @@ Appends-same {R} moment old new client lists steps = record {
   requests = IsLonger-refl old.lists.requests new.lists.requests (ap (λ (l : Lists). l.requests) lists);
 }
 
-pub Appends-refl : {R : Type 0} (moment : ℕ) (trail : Recorded) → Appends R moment trail trail
-Appends-refl {R} moment trail = Appends-same moment trail trail refl refl refl
-
-pub Appends-room : {R : Type 0} (moment : ℕ) (old new : Recorded) (room : Room) → new ≡ record old { room = room } → Appends R moment old new
-Appends-room {R} moment old new room e =
-    Appends-same moment old new (ap (λ (t : Recorded). t.client) e) (ap (λ (t : Recorded). t.lists) e) (ap (λ (t : Recorded). t.steps) e)
-
 -- one of two tests passes
 either-true : {R : Type 0} (a b : Bool) → (a ≡ true → R) → (b ≡ true → R) → (a || b) ≡ true → R
 either-true {R} true b f g h = f refl
 either-true {R} false b f g h = g h
 
-pub Appends-trans : {R : Type 0} (moment : ℕ) (old between new : Recorded) → Appends R moment old between → Appends R moment between new → Appends R moment old new
-Appends-trans {R} moment old between new a b = record {
+grown-trans : {R : Type 0} (moment : ℕ) (old between new : Recorded) → Appends R moment old between → Appends R moment between new → Appends R moment old new
+grown-trans {R} moment old between new a b = record {
   client = b.client ∙ a.client;
   added = a.added ++ b.added;
   steps = b.steps ∙ ap (λ l. l ++ b.added) a.steps ∙ append_assoc old.steps a.added b.added;
@@ -74,8 +83,8 @@ Appends-trans {R} moment old between new a b = record {
 }
 
 -- where a call failed, one did that lasted as long or longer
-pub Appends-weaken : {R S : Type 0} (moment : ℕ) (old new : Recorded) → (R → S) → Appends R moment old new → Appends S moment old new
-Appends-weaken {R} {S} moment old new f a = record {
+grown-weaken : {R S : Type 0} (moment : ℕ) (old new : Recorded) → (R → S) → Appends R moment old new → Appends S moment old new
+grown-weaken {R} {S} moment old new f a = record {
   client = a.client;
   added = a.added;
   steps = a.steps;
@@ -86,10 +95,6 @@ Appends-weaken {R} {S} moment old new f a = record {
   sessions = a.sessions;
   requests = a.requests;
 }
-
--- an entry that tells no failed call
-pub Appends-quiet : {R : Type 0} (moment : ℕ) (old new : Recorded) → Appends ⊥ moment old new → Appends R moment old new
-Appends-quiet {R} moment old new a = Appends-weaken moment old new (λ e. absurd e) a
 
 -- ---- An entry
 
@@ -132,9 +137,9 @@ AreLonger-requests l more = record {
   requests = IsLonger-by l.requests (l.requests ++ more) more refl;
 }
 
-pub Appends-adds : {R : Type 0} (used : Room) (lists : Lists) (moment : ℕ) (e : Entry) (told : Fact) (old new : Recorded) → AreLonger old.lists lists →
+grown-adds : {R : Type 0} (used : Room) (lists : Lists) (moment : ℕ) (e : Entry) (told : Fact) (old new : Recorded) → AreLonger old.lists lists →
     Adds used lists moment e told old new → (tells_fault e ≡ true → R) → Appends R moment old new
-Appends-adds {R} used lists moment e told old new longer a quiet =
+grown-adds {R} used lists moment e told old new longer a quiet =
     let names = ap (λ (l : Lists). l.names) a.lists_now in
     let events = ap (λ (l : Lists). l.events) a.lists_now in
     let sessions = ap (λ (l : Lists). l.sessions) a.lists_now in
@@ -150,3 +155,108 @@ Appends-adds {R} used lists moment e told old new longer a quiet =
       sessions = IsLonger-by old.lists.sessions new.lists.sessions longer.sessions.more (sessions ∙ longer.sessions.grows);
       requests = IsLonger-by old.lists.requests new.lists.requests longer.requests.more (requests ∙ longer.requests.grows);
     }
+
+-- ---- Commands and sessions that stay
+
+kept : (w v : ClientState) → v.commands ≡ w.commands → v.sessions ≡ w.sessions → KeepsCommands w v
+kept w v commands sessions = record { commands = commands; sessions = sessions }
+
+pub KeepsCommands-refl : (w : ClientState) → KeepsCommands w w
+KeepsCommands-refl w = kept w w refl refl
+
+pub KeepsCommands-trans : (w v u : ClientState) → KeepsCommands w v → KeepsCommands v u → KeepsCommands w u
+KeepsCommands-trans w v u a b = kept w u (b.commands ∙ a.commands) (b.sessions ∙ a.sessions)
+
+pub kept-by_drop : (client : Client) (moment : ℕ) (w : ClientState) (host : ℕ) → KeepsCommands w (client_after client moment w (fact.Dropped host))
+kept-by_drop client moment w host = kept w (client_after client moment w (fact.Dropped host)) refl refl
+
+pub kept-by_ready : (client : Client) (moment : ℕ) (w : ClientState) (host : ℕ) → KeepsCommands w (client_after client moment w (fact.PoolReady host))
+kept-by_ready client moment w host = kept w (client_after client moment w (fact.PoolReady host)) refl refl
+
+pub kept-by_clear : (client : Client) (moment : ℕ) (w : ClientState) (host : ℕ) → KeepsCommands w (client_after client moment w (fact.PoolClear host))
+kept-by_clear client moment w host = kept w (client_after client moment w (fact.PoolClear host)) refl refl
+
+pub kept-by_name : (client : Client) (moment : ℕ) (w : ClientState) (host : ℕ) (a : Address) → KeepsCommands w (client_after client moment w (fact.Named host a))
+kept-by_name client moment w host a = kept w (client_after client moment w (fact.Named host a)) refl refl
+
+pub kept-by_end : (client : Client) (moment : ℕ) (w : ClientState) (host : ℕ) (how : CheckHow) → KeepsCommands w (client_after client moment w (fact.CheckEnded host how))
+kept-by_end client moment w host how = kept w (client_after client moment w (fact.CheckEnded host how)) refl refl
+
+pub kept-by_time : (client : Client) (moment : ℕ) (w : ClientState) (stamp : ℕ) → KeepsCommands w (client_after client moment w (fact.Time stamp))
+kept-by_time client moment w stamp = kept w (client_after client moment w (fact.Time stamp)) refl refl
+
+pub kept-by_conn_shut : (client : Client) (moment : ℕ) (w : ClientState) (host conn : ℕ) (reason : CloseReason) →
+    KeepsCommands w (client_after client moment w (fact.ConnShut host conn reason))
+kept-by_conn_shut client moment w host conn reason = kept w (client_after client moment w (fact.ConnShut host conn reason)) refl refl
+
+pub kept-by_shut : (client : Client) (moment : ℕ) (w : ClientState) (host : ℕ) → KeepsCommands w (client_after client moment w (fact.PoolShut host))
+kept-by_shut client moment w host = by (stays_at (slice_get w.servers host)) (pool_after w moment (fact.PoolShut host)) (kept w (pool_after w moment (fact.PoolShut host)) refl refl)
+  where
+    by : (b : Bool) (v : ClientState) → KeepsCommands w v → KeepsCommands w (if b then record v { is_ending = true } else v)
+    by true v h = kept w (record v { is_ending = true }) h.commands h.sessions
+    by false v h = h
+
+pub kept-by_begin : (client : Client) (moment : ℕ) (w : ClientState) (host stream : ℕ) → KeepsCommands w (client_after client moment w (fact.CheckBegan host stream))
+kept-by_begin client moment w host stream = by (kept_at w host)
+  where
+    by : (o : Option ℕ) → KeepsCommands w (with_server (stream_taken o stream w) host (check_begins moment stream))
+    by None = kept w (with_server (stream_taken None stream w) host (check_begins moment stream)) refl refl
+    by (Some x) = kept w (with_server (stream_taken (Some x) stream w) host (check_begins moment stream)) refl refl
+
+pub kept-by_hello : (client : Client) (moment : ℕ) (w : ClientState) (place host : ℕ) (r : Request) → r.purpose ≡ purpose.Check host →
+    KeepsCommands w (client_after client moment w (fact.Asked place r))
+kept-by_hello client moment w place host r for =
+    let same : client_after client moment w (fact.Asked place r) ≡ record w { requests = w.requests + 1 } =
+    ap (λ (p : Purpose). commands_after (asked_event p) (asked_by moment p (farewell_by p r.stream (record w { requests = w.requests + 1 })))) for in
+    kept w (client_after client moment w (fact.Asked place r)) (ap (λ (v : ClientState). v.commands) same) (ap (λ (v : ClientState). v.sessions) same)
+
+pub kept-offered : (moment : ℕ) (event : TopoEvent) (w : ClientState) → KeepsCommands w (offered_after moment event w)
+kept-offered moment event w = by (is_accepted_verdict (verdict_on w event)) (topology_after w event) (asks (option_and_then (number_of w) (asks_of event)))
+  where
+    asks : (o : Option ℕ) → KeepsCommands w (asked_at moment o w)
+    asks None = KeepsCommands-refl w
+    asks (Some host) = kept w (asked_at moment (Some host) w) refl refl
+
+    by : (b : Bool) (t : Topology) → KeepsCommands w (with_ask moment event w) →
+        KeepsCommands w (record (if b then with_ask moment event w else w) { topology = t; events = w.events + 1 })
+    by true t h = kept w (record (with_ask moment event w) { topology = t; events = w.events + 1 }) h.commands h.sessions
+    by false t h = kept w (record w { topology = t; events = w.events + 1 }) refl refl
+
+-- ---- Trails that grow beside them
+
+pub Appends-room : {R : Type 0} (moment : ℕ) (old new : Recorded) (room : Room) → new ≡ record old { room = room } → AppendsAside R moment old new
+Appends-room {R} moment old new room e = record {
+  appends = grown-same moment old new (ap (λ (t : Recorded). t.client) e) (ap (λ (t : Recorded). t.lists) e) (ap (λ (t : Recorded). t.steps) e);
+  aside = kept old.point.state new.point.state (ap (λ (t : Recorded). t.point.state.commands) e) (ap (λ (t : Recorded). t.point.state.sessions) e);
+}
+
+pub Appends-refl : {R : Type 0} (moment : ℕ) (trail : Recorded) → AppendsAside R moment trail trail
+Appends-refl {R} moment trail = Appends-room moment trail trail trail.room refl
+
+pub Appends-same : {R : Type 0} (moment : ℕ) (old new : Recorded) → new ≡ old → AppendsAside R moment old new
+Appends-same {R} moment old new e = Appends-room moment old new old.room e
+
+pub Appends-trans : {R : Type 0} (moment : ℕ) (old between new : Recorded) → AppendsAside R moment old between → AppendsAside R moment between new →
+    AppendsAside R moment old new
+Appends-trans {R} moment old between new a b = record {
+  appends = grown-trans moment old between new a.appends b.appends;
+  aside = KeepsCommands-trans old.point.state between.point.state new.point.state a.aside b.aside;
+}
+
+-- where a call failed, one did that lasted as long or longer
+pub Appends-weaken : {R S : Type 0} (moment : ℕ) (old new : Recorded) → (R → S) → AppendsAside R moment old new → AppendsAside S moment old new
+Appends-weaken {R} {S} moment old new f a = record { appends = grown-weaken moment old new f a.appends; aside = a.aside }
+
+-- an entry that tells no failed call
+pub Appends-quiet : {R : Type 0} (moment : ℕ) (old new : Recorded) → AppendsAside ⊥ moment old new → AppendsAside R moment old new
+Appends-quiet {R} moment old new a = Appends-weaken moment old new (λ e. absurd e) a
+
+pub Appends-adds : {R : Type 0} (used : Room) (lists : Lists) (moment : ℕ) (e : Entry) (told : Fact) (old new : Recorded) → AreLonger old.lists lists →
+    Adds used lists moment e told old new → (tells_fault e ≡ true → R) → KeepsCommands old.point.state (client_after old.client moment old.point.state told) →
+    AppendsAside R moment old new
+Appends-adds {R} used lists moment e told old new longer a quiet k = record {
+  appends = grown-adds used lists moment e told old new longer a quiet;
+  aside =
+      let state : new.point.state ≡ client_after old.client moment old.point.state told = ap (λ (p : Point). p.state) a.point_now in
+      kept old.point.state new.point.state (ap (λ (w : ClientState). w.commands) state ∙ k.commands) (ap (λ (w : ClientState). w.sessions) state ∙ k.sessions);
+}

@@ -1,6 +1,6 @@
 -- What a desk keeps stays so behind the beginning and the end of a check, and behind a cluster time.
-use Rattle.std.proofs.Common.{◌≡◌, ◌≢◌, ◌≤◌, ◌<◌, ◌-◌, ℕ, ◌+◌, ◌^◌, Bool, true, false, not, List, [], ◌∷◌, ◌++◌, map, length, Option, None, Some, refl, sym, ap, ◌∙◌, subst, arith}
-use Rattle.std.specs.Prelude.{IfSome, drop, is_some, slice_get, slice_set, nat_lt, if◌then◌else◌}
+use Rattle.std.proofs.Common.{◌≡◌, ◌≢◌, ◌≤◌, ◌<◌, ℕ, ◌+◌, Bool, true, false, not, List, [], ◌∷◌, ◌++◌, length, Option, None, Some, refl, sym, ap, ◌∙◌, subst, arith}
+use Rattle.std.specs.Prelude.{IfSome, drop, is_some, slice_get, slice_set, nat_lt}
 use Rattle.std.specs.Option.{option_map, option_map_or}
 use Rattle.std.proofs.lemmas.Bool.{ltb-true}
 use Rattle.std.proofs.lemmas.List.{length-append, length-set}
@@ -23,7 +23,6 @@ use Rattle.desk_trail.specs.declared.entry.Entry.{Entry}
 use Rattle.desk_trail.specs.declared.request.Purpose.{Purpose}
 use Rattle.desk_trail.specs.declared.request.Purpose.TheVariants as purpose
 use Rattle.desk_trail.specs.declared.request.Request.{Request}
-use Rattle.desk_trail.specs.declared.room.Room.{Room}
 use Rattle.desk_trail.specs.Attempts.{CommandAllows, asked_by, asked_event, commands_after}
 use Rattle.desk_trail.specs.Checks.{AtServer, IsCheckStream, IsDue, MayCheckEnd, Runs, check_begins, check_ends, is_known_by, kept_at, kept_stream, offered_of, stream_kept, stream_taken}
 use Rattle.desk_trail.specs.Clients.{Client, connect_limit}
@@ -45,9 +44,9 @@ use Rattle.desk_core.specs.Driven.{IsKeptIdle, IsStillUsed}
 use Rattle.desk_core.specs.Ends.{IsEndBy, IsWhole}
 use Rattle.desk_core.specs.Follows.{IsToOffer}
 use Rattle.desk_core.specs.Kept.{IsKept, LeadsTo, client_of}
-use Rattle.desk_core.specs.Servers.{AreKeptServers, HasStream, IsKeptServer, standing}
-use Rattle.desk_core.proofs.KeptLemmas.{client_of-same, length-with_entry, servers-of}
-use Rattle.desk_core.proofs.ServerLemmas.{AreKeptServers-closed, AreKeptServers-more, AreKeptServers-set, map-set, standing-set_kept}
+use Rattle.desk_core.specs.Servers.{AreKeptServers, HasStream, IsKeptServer, closing_of, closings}
+use Rattle.desk_core.proofs.KeptLemmas.{length-with_entry, restated, servers-of}
+use Rattle.desk_core.proofs.ServerLemmas.{AreKeptServers-closed, AreKeptServers-more, AreKeptServers-set, closing_of-kept, closings-set_kept, map-set}
 
 -- ---- Entries that change one server
 
@@ -63,25 +62,21 @@ pub record Changes (old new : Recorded) (k : ℕ) (t : ServerState) : Type 0 whe
   }
   pub time : new.point.time ≡ old.point.time
 
-with_client : (old new : Recorded) (topology : Topology) (ss : List ServerState) (requests : ℕ) → new.client ≡ old.client → new.lists.events ≡ old.lists.events →
-    requests ≡ length new.lists.requests →
-    record (client_of old topology ss) { streams = new.point.state.streams; requests = requests } ≡ client_of new topology ss
-with_client old new topology ss requests client events count = rw (client, events, count) refl
-
 pub LeadsTo-changes : (old new : Recorded) (before lines : Lines) (topology : Topology) (ss : List ServerState) (time : Option ClusterTime) (last k : ℕ) (s t : ServerState) →
-    Changes old new k t → new.point.state.requests ≡ length new.lists.requests → slice_get ss k ≡ Some s → t.address ≡ s.address → t.has_left ≡ s.has_left →
-    new.point.moment ≤ last → standing ss ≤ new.room.steps → AreKeptServers lines (length new.steps) (slice_set ss k t) → LeadsTo old before topology ss time last →
+    Changes old new k t → new.point.state.requests ≡ length new.lists.requests → slice_get ss k ≡ Some s → t.address ≡ s.address → closing_of t ≡ closing_of s →
+    new.point.moment ≤ last → closings ss ≤ new.room.steps → AreKeptServers lines (length new.steps) (slice_set ss k t) → LeadsTo old before topology ss time last →
     LeadsTo new lines topology (slice_set ss k t) time last
-LeadsTo-changes old new before lines topology ss time last k s t m requests there address left moment room kept h = record {
+LeadsTo-changes old new before lines topology ss time last k s t m requests there address closing moment room kept h = record {
   state =
-      m.state
-      ∙ ap (λ (w : ClientState). record w { servers = slice_set w.servers k t; streams = new.point.state.streams; requests = new.point.state.requests }) h.state
-      ∙ with_client old new topology (slice_set ss k t) new.point.state.requests m.client m.events requests;
+      restated new (record (client_of old topology ss) { servers = slice_set ss k t; streams = new.point.state.streams; requests = new.point.state.requests })
+      (length old.lists.events) new.point.state.requests topology (slice_set ss k t)
+      (m.state ∙ ap (λ (w : ClientState). record w { servers = slice_set w.servers k t; streams = new.point.state.streams; requests = new.point.state.requests }) h.state)
+      refl (ap length (sym m.events)) requests;
   greatest = m.time ∙ h.greatest;
   moment = moment;
   names = m.names ∙ h.names ∙ sym (map-set (λ (u : ServerState). u.address) ss k t s there address);
   numbers = rw (length-set ss k t) h.numbers;
-  room = rw (standing-set_kept ss k s t there left) room;
+  room = rw (closings-set_kept ss k s t there closing) room;
   kept = kept;
 }
 
@@ -142,7 +137,7 @@ Changes-begun old between new moment k stream s b there =
 pub LeadsTo-begun : (old between new : Recorded) (before lines : Lines) (topology : Topology) (ss : List ServerState) (time : Option ClusterTime) (last moment k stream : ℕ)
     (s : ServerState) (line now : Line) →
     Begins old between new moment k stream → slice_get ss k ≡ Some s → s.has_left ≡ false → line_at before stream ≡ Some line → line.is_for ≡ for_use.Check k →
-    line_at lines stream ≡ Some now → now.is_for ≡ for_use.Check k → KeepsOthers stream before lines → moment ≤ last → standing ss ≤ new.room.steps →
+    line_at lines stream ≡ Some now → now.is_for ≡ for_use.Check k → KeepsOthers stream before lines → moment ≤ last → closings ss ≤ new.room.steps →
     LeadsTo old before topology ss time last → LeadsTo new lines topology (slice_set ss k (check_begins moment stream s)) time last
 LeadsTo-begun old between new before lines topology ss time last moment k stream s line now b there stays line_there is_for now_there now_is_for others at room h =
     let servers = servers-of old before topology ss time last h in
@@ -161,9 +156,9 @@ LeadsTo-begun old between new before lines topology ss time last moment k stream
     (AreKeptServers-more before (length old.steps) (length new.steps) ss (omega arith) h.kept)
     (record {
       paid = kept.paid;
-      none = kept.none;
       is_open = kept.is_open;
       generation = let g = kept.generation in omega arith;
+      entered = let g = kept.entered in omega arith;
       checked = (now, now_there, now_is_for, λ (e : Some moment ≡ None). absurd (cc));
       paced = kept.paced;
     }))
@@ -189,6 +184,11 @@ IsRested-ended moment how.Late known s = record { address = refl; left = refl; p
 IsRested-ended moment (how.Bad at) known s = record { address = refl; left = refl; pool = refl; began = refl; beat = refl; stream = λ n. refl }
 IsRested-ended moment how.NoDial known s = record { address = refl; left = refl; pool = refl; began = refl; beat = refl; stream = λ n. n refl }
 
+closing-ended : (moment : ℕ) (h : CheckHow) (known : Bool) (s : ServerState) → closing_of (check_ends moment h known s) ≡ closing_of s
+closing-ended moment h known s =
+    let is = IsRested-ended moment h known s in
+    closing_of-kept s (check_ends moment h known s) is.left (ap (λ p. length p.state.available) is.pool)
+
 -- the server has its stream behind it: none, or one on which all is sent
 pub data EndsOn (lines : Lines) (k : ℕ) (h : CheckHow) (o : Option ℕ) : Type 0 where
   none_kept : kept_stream h o ≡ None → EndsOn lines k h o
@@ -211,9 +211,9 @@ IsKeptServer-ended old lines m n k moment h known s more none on kept =
     let is = IsRested-ended moment h known s in
     record {
       paid = ap (λ p. p.owed) is.pool ∙ kept.paid;
-      none = ap (λ p. p.state.available) is.pool ∙ kept.none;
       is_open = λ stays. ap (λ p. is_closed p.state.state) is.pool ∙ kept.is_open (sym is.left ∙ stays);
       generation = let g = kept.generation in let e : t.pool.state.generation ≡ s.pool.state.generation = ap (λ p. p.state.generation) is.pool in omega arith;
+      entered = let g = kept.entered in let e : t.pool.state.entered ≡ s.pool.state.entered = ap (λ p. p.state.entered) is.pool in omega arith;
       checked =
           subst (λ b. HasStream lines k b t.check_stream) (sym is.began)
           (subst (λ o. HasStream lines k None o) (sym (is.stream none)) (HasStream-ended lines k h s.check_stream on));
@@ -255,7 +255,7 @@ AreKeptServers-only before lines n k ss t (others_same stream line there is_for 
 pub LeadsTo-ended : (old new : Recorded) (before lines : Lines) (topology : Topology) (ss : List ServerState) (time : Option ClusterTime) (last moment k : ℕ) (h : CheckHow)
     (s : ServerState) (e : Entry) →
     Adds an_entry old.lists moment e (fact.CheckEnded k h) old new → slice_get ss k ≡ Some s → (h ≡ how.NoDial → s.check_stream ≡ None) → EndsOn lines k h s.check_stream →
-    OnlyAt k before lines → moment ≤ last → standing ss ≤ new.room.steps → LeadsTo old before topology ss time last →
+    OnlyAt k before lines → moment ≤ last → closings ss ≤ new.room.steps → LeadsTo old before topology ss time last →
     LeadsTo new lines topology (slice_set ss k (check_ends moment h (stands_known topology s.address) s)) time last
 LeadsTo-ended old new before lines topology ss time last moment k h s e adds there none on only at room l =
     let servers = servers-of old before topology ss time last l in
@@ -267,7 +267,8 @@ LeadsTo-ended old new before lines topology ss time last moment k h s e adds the
     let steps : length new.steps ≡ length old.steps + 1 = ap length adds.steps_now ∙ length-with_entry old.steps moment e in
     let counted : old.point.state.requests ≡ length old.lists.requests = ap (λ (w : ClientState). w.requests) l.state in
     let moment_now : new.point.moment ≡ moment = ap (λ (p : Point). p.moment) adds.point_now in
-    LeadsTo-changes old new before lines topology ss time last k s t m.0 (m.1 ∙ counted ∙ ap (λ (x : Lists). length x.requests) (sym adds.lists_now)) there is.address is.left
+    LeadsTo-changes old new before lines topology ss time last k s t m.0 (m.1 ∙ counted ∙ ap (λ (x : Lists). length x.requests) (sym adds.lists_now)) there is.address
+    (closing-ended moment h (stands_known topology s.address) s)
     (omega arith) room
     (AreKeptServers-only before lines (length new.steps) k ss t only (AreKeptServers-more before (length old.steps) (length new.steps) ss (omega arith) l.kept)
     (IsKeptServer-ended before lines (length old.steps) (length new.steps) k moment h (stands_known topology s.address) s (omega arith) none on (l.kept k s there)))
@@ -295,9 +296,9 @@ LeadsTo-dialled trail old new topology ss time last stream free others h = recor
       let k = h.kept x s there in
       record {
         paid = k.paid;
-        none = k.none;
         is_open = k.is_open;
         generation = k.generation;
+        entered = k.entered;
         checked = HasStream-dialled old new stream x s.checks.began s.check_stream free others k.checked;
         paced = k.paced;
       };
@@ -306,7 +307,7 @@ LeadsTo-dialled trail old new topology ss time last stream free others h = recor
 -- ---- A cluster time
 
 pub LeadsTo-told : (old new : Recorded) (lines : Lines) (topology : Topology) (ss : List ServerState) (time now : Option ClusterTime) (came : ClusterTime) (last moment : ℕ) (e : Entry) →
-    Adds an_entry old.lists moment e (fact.Time came.stamp) old new → now ≡ Some came → moment ≤ last → standing ss ≤ new.room.steps →
+    Adds an_entry old.lists moment e (fact.Time came.stamp) old new → now ≡ Some came → moment ≤ last → closings ss ≤ new.room.steps →
     LeadsTo old lines topology ss time last → LeadsTo new lines topology ss now last
 LeadsTo-told old new lines topology ss time now came last moment e adds is at room h =
     let state : new.point.state ≡ old.point.state = ap (λ (p : Point). p.state) adds.point_now in
@@ -314,9 +315,8 @@ LeadsTo-told old new lines topology ss time now came last moment e adds is at ro
     let moment_now : new.point.moment ≡ moment = ap (λ (p : Point). p.moment) adds.point_now in
     record {
       state =
-          state ∙ h.state
-          ∙ client_of-same old new topology ss adds.same_client (ap (λ (l : Lists). l.events) adds.lists_now) (ap (λ (l : Lists). l.requests) adds.lists_now)
-          (ap (λ (w : ClientState). w.streams) state);
+          restated new (client_of old topology ss) (length old.lists.events) (length old.lists.requests) topology ss (state ∙ h.state) refl
+          (ap (λ (l : Lists). length l.events) (sym adds.lists_now)) (ap (λ (l : Lists). length l.requests) (sym adds.lists_now));
       greatest = ap (λ (p : Point). p.time) adds.point_now ∙ ap (λ (o : Option ClusterTime). option_map (λ (t : ClusterTime). t.stamp) o) (sym is);
       moment = omega arith;
       names = ap (λ (l : Lists). l.names) adds.lists_now ∙ h.names;
@@ -489,7 +489,7 @@ IsKept-begun old between new before lines topology ss time count last moment k s
       leads = λ runs.
           LeadsTo-begun old between new before lines topology ss time last moment k stream s line now b there stays line_there is_for now_there now_is_for others (omega arith) (omega arith)
           (kept.leads runs);
-      counted = kept.counted ∙ sym (standing-set_kept ss k s (check_begins moment stream s) there refl);
+      counted = kept.counted ∙ sym (closings-set_kept ss k s (check_begins moment stream s) there refl);
       in_range = kept.in_range;
     })
 
@@ -506,7 +506,7 @@ IsKept-ended old new before lines topology ss time count last moment k stopped h
           LeadsTo-ended old new before lines topology ss time last moment k h s e adds there none on only (omega arith) (omega arith) (kept.leads runs);
       counted =
           kept.counted
-          ∙ sym (standing-set_kept ss k s (check_ends moment h (stands_known topology s.address) s) there (IsRested-ended moment h (stands_known topology s.address) s).left);
+          ∙ sym (closings-set_kept ss k s (check_ends moment h (stands_known topology s.address) s) there (closing-ended moment h (stands_known topology s.address) s));
       in_range = kept.in_range;
     })
 

@@ -23,12 +23,12 @@ use Rattle.legal_trail.specs.Recorded.{Adds, Recorded}
 use Rattle.wired_trail.specs.Lines.{KeepsOthers, Lines, line_at}
 use Rattle.wired_trail.specs.declared.lines.Line.{Line}
 use Rattle.wired_trail.specs.declared.stream_use.StreamUse.TheVariants as for_use
-use Rattle.desk_core.specs.Appends.{Appends, tells_fault}
+use Rattle.desk_core.specs.Appends.{AppendsAside, tells_fault}
 use Rattle.desk_core.specs.Driven.{IsKeptIdle, IsStillUsed}
 use Rattle.desk_core.specs.Ends.{IsEndBy, IsOfReply}
 use Rattle.desk_core.specs.Kept.{IsKept, LeadsTo}
 use Rattle.desk_core.specs.Servers.{AreKeptServers, HasStream}
-use Rattle.desk_core.proofs.AppendsLemmas.{Appends-adds, Appends-quiet, Appends-room, Appends-trans, AreLonger-refl}
+use Rattle.desk_core.proofs.AppendsLemmas.{Appends-adds, Appends-quiet, Appends-room, Appends-trans, AreLonger-refl, kept-by_end}
 use Rattle.desk_core.proofs.CheckLemmas.{EndsOn, IsOwedBy, MayEnd-by, StandsAt-ended, none_kept, one_kept}
 use Rattle.desk_core.proofs.DropLemmas.{read-there}
 use Rattle.desk_core.proofs.KeptLemmas.{servers-of}
@@ -128,9 +128,9 @@ AreKept-still trail before lines ss n host stream began d others still kept =
     (AreKeptServers-closed before lines n ss host stream d.server d.line d.line_there d.is_for others kept
     (record {
       paid = k.paid;
-      none = k.none;
       is_open = k.is_open;
       generation = k.generation;
+      entered = k.entered;
       checked =
           HasStream-still before lines host stream began d.server.checks.began d.server.check_stream d.line d.has d.runs.since d.line_there d.is_for still;
       paced = k.paced;
@@ -228,9 +228,9 @@ length-names old between new lines topology ss time last moment host h same adds
 
 pub Appends-ended : {R : Type 0} (old between new end : Recorded) (room : Room) (moment host : ℕ) (h : CheckHow) → between ≡ record old { room = room } →
     Adds an_entry between.lists moment (entry.CheckEnded host h) (fact.CheckEnded host h) between new → (tells_fault (entry.CheckEnded host h) ≡ true → R) →
-    Appends ⊥ moment new end → Appends R moment old end
+    AppendsAside ⊥ moment new end → AppendsAside R moment old end
 Appends-ended {R} old between new end room moment host h same adds tells then =
     Appends-trans moment old between end (Appends-room moment old between room same)
     (Appends-trans moment between new end
-    (Appends-adds an_entry between.lists moment (entry.CheckEnded host h) (fact.CheckEnded host h) between new (AreLonger-refl between.lists) adds tells)
+    (Appends-adds an_entry between.lists moment (entry.CheckEnded host h) (fact.CheckEnded host h) between new (AreLonger-refl between.lists) adds tells (kept-by_end between.client moment between.point.state host h))
     (Appends-quiet moment new end then))

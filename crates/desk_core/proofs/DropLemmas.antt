@@ -1,17 +1,12 @@
 -- A server leaves the topology, and its pool is closed.
-use Rattle.std.proofs.Common.{◌≡◌, ◌≤◌, ℕ, ◌+◌, ◌-◌, Bool, true, false, not, List, [], ◌∷◌, ◌++◌, map, length, drop, get_or, Option, None, Some, refl, sym, ap, ◌∙◌, subst, arith}
-use Rattle.std.specs.Prelude.{slice_get, slice_set, IfSome, IfNone, if◌then◌else◌}
+use Rattle.std.proofs.Common.{◌≡◌, ◌≤◌, ℕ, ◌+◌, ◌-◌, Bool, true, false, not, List, [], ◌∷◌, ◌++◌, length, drop, get_or, Option, None, Some, refl, sym, ap, ◌∙◌, subst, arith, inl, inr}
+use Rattle.std.specs.Prelude.{slice_get, slice_set, IfSome, if◌then◌else◌}
 use Rattle.std.proofs.Math.Seq.{set-set}
 use Rattle.std.proofs.lemmas.List.{length-set}
 use Rattle.std.proofs.lemmas.Option.{slice_get_read, slice_get_within}
 use Rattle.bson_doc.specs.declared.cluster_time.ClusterTime.{ClusterTime}
-use Rattle.entry_judge.specs.Groups.{nothing_owed, place_by}
 use Rattle.pool_book.specs.Entries as pool
-use Rattle.pool_book.specs.Judge.{pool_judge}
-use Rattle.pool_book.specs.Pool.{Pool, is_closed}
-use Rattle.pool_book.specs.declared.answers.CloseReason.TheVariants.{PoolClosed}
-use Rattle.pool_book.specs.declared.connections.Available.{Available}
-use Rattle.pool_book.specs.declared.state.PoolState.TheVariants as state_of
+use Rattle.pool_book.specs.Pool.{is_closed}
 use Rattle.host_name.specs.Addresses.{Address, is_same_address}
 use Rattle.topo_rules.specs.declared.topology.Topology.{Topology}
 use Rattle.desk_trail.specs.declared.entry.Entry.{Entry}
@@ -22,53 +17,33 @@ use Rattle.desk_trail.specs.Facts as fact
 use Rattle.desk_trail.specs.Legal.{Point, StandsAt, pool_after, stays_at}
 use Rattle.desk_trail.specs.Owed.{Owed}
 use Rattle.desk_trail.specs.Owed as owed
-use Rattle.desk_trail.specs.Pools.{owed_of, pool_owes, with_pool}
-use Rattle.desk_trail.specs.States.{ClientState, ServerState, Stays, changed, changed_at}
+use Rattle.desk_trail.specs.Pools.{with_pool}
+use Rattle.desk_trail.specs.States.{ClientState, ServerState, Stays}
 use Rattle.desk_trail.specs.Written.{an_entry}
 use Rattle.legal_trail.specs.Recorded.{Adds, Recorded}
+use Rattle.server_state.specs.PoolMoves.{behind_group}
 use Rattle.wired_trail.specs.Lines.{IsThere, KeepsOthers, Lines}
 use Rattle.desk_core.specs.Kept.{IsKept, LeadsTo}
-use Rattle.desk_core.specs.Servers.{AreKeptServers, HasStream, IsKeptServer, IsUntouched, standing}
-use Rattle.desk_core.proofs.KeptLemmas.{LeadsTo-moves, Moves, Moves-trans, length-with_entry, servers-of}
-use Rattle.desk_core.proofs.ServerLemmas.{AreKeptServers-closed, AreKeptServers-more, AreKeptServers-set, map-set, slice_get-set_same, standing-set_left, IsUntouched-set}
+use Rattle.desk_core.specs.Leaving.{Drops, dropped, is_of_host}
+use Rattle.desk_core.specs.Moves.{Moves}
+use Rattle.desk_core.specs.Servers.{HasStream, IsKeptServer, IsUntouched, closings}
+use Rattle.desk_core.specs.Shutting.{KeepsUses, Shuts, is_of_pool, owed_shuts, owing}
+use Rattle.desk_core.proofs.KeptLemmas.{LeadsTo-moves, Moves-trans, length-with_entry, servers-of}
+use Rattle.desk_core.proofs.ServerLemmas.{AreKeptServers-more, IsUntouched-set, closing_of-stays, closings-set, map-set, slice_get-set_same}
+use Rattle.desk_core.proofs.ShutLemmas.{changed-there, pool_owes-shut, with_pool-shut}
+use Rattle.desk_core.proofs.UseLemmas.{AreKeptServers-left, KeepsUses-closed, KeepsUses-same, KeepsUses-trans, KeepsUses-weaken}
 
 -- ---- The server
 
--- a server that left, and whose pool is closed
-abbrev pub dropped : ℕ → ServerState → ServerState
-dropped moment s = with_pool moment pool.Shut (leaves s)
-
--- a pool in which no connection is available, behind its closing
-abbrev closed : Pool → Pool
-closed p = record p { state = state_of.Closed; available = [] }
-
-pool-dropped : (moment : ℕ) (s : ServerState) → s.pool.owed ≡ [] → s.pool.state.available ≡ [] → (dropped moment s).pool ≡ nothing_owed (closed s.pool.state)
-pool-dropped moment s paid none =
-    ap (λ o. place_by pool_judge s.pool.state o (record { at = moment; what = pool.Shut })) paid
-    ∙ ap (λ (xs : List Available). record { state = closed s.pool.state; owed = map (λ a. pool.ConnShut a.conn PoolClosed) xs }) none
-
 pub IsKeptServer-dropped : (lines before : Lines) (m n x moment : ℕ) (s : ServerState) → m ≤ n → IsKeptServer before m x s → IsKeptServer lines n x (dropped moment s)
-IsKeptServer-dropped lines before m n x moment s more k =
-    let is = pool-dropped moment s k.paid k.none in
-    let same : (dropped moment s).pool.state.generation ≡ s.pool.state.generation = ap (λ p. p.state.generation) is in
-    let less = k.generation in
-    record {
-      paid = ap (λ p. p.owed) is;
-      none = ap (λ p. p.state.available) is;
-      is_open = λ stays. absurd (cc);
-      generation = omega arith;
-      checked = refl;
-      paced = k.paced;
-    }
-
-there-checked : (lines : Lines) (x : ℕ) (began o : Option ℕ) → HasStream lines x began o → IfSome o (λ s. IsThere lines s)
-there-checked lines x began None h = tt
-there-checked lines x began (Some s) h = record { line = h.0; there = h.1 }
-
--- the stream of its checks is in use, where there is one
-pub IsThere-checked : (lines now : Lines) (x : ℕ) (began o stream : Option ℕ) → HasStream lines x began o → now ≡ lines → stream ≡ o → IfSome stream (λ s. IsThere now s)
-IsThere-checked lines now x began o stream h same is =
-    subst (λ (l : Lines). IfSome stream (λ s. IsThere l s)) (sym same) (subst (λ (n : Option ℕ). IfSome n (λ s. IsThere lines s)) (sym is) (there-checked lines x began o h))
+IsKeptServer-dropped lines before m n x moment s more k = record {
+  paid = refl;
+  is_open = λ stays. absurd (cc);
+  generation = let less = k.generation in omega arith;
+  entered = let less = k.entered in omega arith;
+  checked = refl;
+  paced = k.paced;
+}
 
 -- a server of a desk that runs, which stands in the topology
 pub record IsStanding (trail : Recorded) (lines : Lines) (ss : List ServerState) (host : ℕ) : Type 0 where
@@ -118,8 +93,10 @@ StandsAt-shut client p moment host rest s owes at going there paid is_open = rec
 
 -- ---- What they change
 
-changed-there : {A : Type 0} (xs : List A) (k : ℕ) (f : A → A) (x : A) → slice_get xs k ≡ Some x → changed xs k f ≡ slice_set xs k (f x)
-changed-there xs k f x h = ap (λ o. changed_at xs k o f) h
+-- a change of the server of a list in which that server changed before
+pub Moves-at : (old new : Recorded) (ss : List ServerState) (host : ℕ) (s t : ServerState) → old.point.state.servers ≡ slice_set ss host s →
+    Moves old new (slice_set old.point.state.servers host t) → Moves old new (slice_set ss host t)
+Moves-at old new ss host s t before m = subst (λ zs. Moves old new zs) (ap (λ zs. slice_set zs host t) before ∙ set-set ss host s t) m
 
 -- behind the first entry: the server left, and the closing of its pool must come next
 pub record Leaves (old new : Recorded) (moment host : ℕ) (s : ServerState) : Type 0 where
@@ -159,95 +136,108 @@ Leaves-by old new moment host s e there a =
 stays_at-left : (o : Option ServerState) (s : ServerState) → o ≡ Some s → s.has_left ≡ true → stays_at o ≡ false
 stays_at-left o s h left = ap stays_at h ∙ ap not left
 
-pool_owes-shut : (w : ClientState) (host : ℕ) (s : ServerState) → slice_get w.servers host ≡ Some s → s.pool.owed ≡ [] → s.pool.state.available ≡ [] →
-    pool_owes w (Some (host, pool.Shut)) ≡ []
-pool_owes-shut w host s there paid none = ap (λ o. owed_of host o pool.Shut) there ∙ rw (paid, none) refl
-
--- behind both: nothing of them is owed any more
-pub record Drops (old new : Recorded) (moment host : ℕ) (s : ServerState) : Type 0 where
-  pub moves : Moves old new (slice_set old.point.state.servers host (dropped moment s))
-  pub next : (rest : List Owed) → old.point.owed ≡ owed.Dropped host ∷ rest → new.point.owed ≡ rest
+-- behind the second one: its pool owes that each available connection is shut
+pub record Closes (old new : Recorded) (moment host : ℕ) (s : ServerState) : Type 0 where
+  pub moves : Moves old new (slice_set old.point.state.servers host (owing s.pool.state.available (behind_group moment pool.Shut s)))
+  pub here : slice_get new.point.state.servers host ≡ Some (owing s.pool.state.available (behind_group moment pool.Shut s))
+  pub next : (rest : List Owed) → old.point.owed ≡ owed.PoolShut host ∷ rest → new.point.owed ≡ owed_shuts host s.pool.state.available ++ rest
   pub at : new.point.moment ≡ moment
   pub lists : new.lists ≡ old.lists
-  pub steps : length new.steps ≡ length old.steps + 2
-  pub room : old.room.steps ≡ new.room.steps + 2
+  pub steps : length new.steps ≡ length old.steps + 1
+  pub room : old.room.steps ≡ new.room.steps + 1
 
-Moves-shut : (old new : Recorded) (moment host : ℕ) (s : ServerState) (e : Entry) → slice_get old.point.state.servers host ≡ Some s → s.has_left ≡ true →
-    Adds an_entry old.lists moment e (fact.PoolShut host) old new → Moves old new (slice_set old.point.state.servers host (with_pool moment pool.Shut s))
-Moves-shut old new moment host s e there left a =
+pub Closes-by : (old new : Recorded) (moment host : ℕ) (s : ServerState) (e : Entry) → slice_get old.point.state.servers host ≡ Some s → s.has_left ≡ true → s.pool.owed ≡ [] →
+    Adds an_entry old.lists moment e (fact.PoolShut host) old new → Closes old new moment host s
+Closes-by old new moment host s e there left paid a =
     let w = old.point.state in
+    let t = owing s.pool.state.available (behind_group moment pool.Shut s) in
     let v = pool_after w moment (fact.PoolShut host) in
+    let state : new.point.state ≡ record w { servers = slice_set w.servers host t } =
+    ap (λ (p : Point). p.state) a.point_now
+    ∙ ap (λ (b : Bool). if b then record v { is_ending = true } else v) (stays_at-left (slice_get w.servers host) s there left)
+    ∙ ap (λ (ss : List ServerState). record w { servers = ss })
+    (changed-there w.servers host (with_pool moment pool.Shut) s there ∙ ap (slice_set w.servers host) (with_pool-shut moment s paid)) in
     record {
-      client = a.same_client;
-      events = ap (λ (l : Lists). l.events) a.lists_now;
-      requests = ap (λ (l : Lists). l.requests) a.lists_now;
-      state =
-          ap (λ (p : Point). p.state) a.point_now
-          ∙ ap (λ (b : Bool). if b then record v { is_ending = true } else v) (stays_at-left (slice_get w.servers host) s there left)
-          ∙ ap (λ (ss : List ServerState). record w { servers = ss }) (changed-there w.servers host (with_pool moment pool.Shut) s there);
-      time = ap (λ (p : Point). p.time) a.point_now;
-    }
-
-pub Drops-by : (old between new : Recorded) (moment host : ℕ) (s : ServerState) (e : Entry) → slice_get old.point.state.servers host ≡ Some s → s.pool.owed ≡ [] →
-    s.pool.state.available ≡ [] → Leaves old between moment host s → Adds an_entry between.lists moment e (fact.PoolShut host) between new →
-    Drops old new moment host s
-Drops-by old between new moment host s e there paid none l a =
-    let ss = old.point.state.servers in
-    let now : between.point.state.servers ≡ slice_set ss host (leaves s) = ap (λ (w : ClientState). w.servers) l.moves.state in
-    let here = l.here in
-    let twice : slice_set between.point.state.servers host (dropped moment s) ≡ slice_set ss host (dropped moment s) =
-    ap (λ zs. slice_set zs host (dropped moment s)) now ∙ set-set ss host (leaves s) (dropped moment s) in
-    let second : Moves between new (slice_set ss host (dropped moment s)) =
-    subst (λ zs. Moves between new zs) twice (Moves-shut between new moment host (leaves s) e here refl a) in
-    let one = l.steps in
-    let two : length new.steps ≡ length between.steps + 1 = ap length a.steps_now ∙ length-with_entry between.steps moment e in
-    let first_room = l.room in
-    let second_room = a.room_used.steps in
-    record {
-      moves = Moves-trans old between new (slice_set ss host (leaves s)) (slice_set ss host (dropped moment s)) l.moves second;
+      moves = record {
+        client = a.same_client;
+        events = ap (λ (l : Lists). l.events) a.lists_now;
+        requests = ap (λ (l : Lists). l.requests) a.lists_now;
+        state = state;
+        time = ap (λ (p : Point). p.time) a.point_now;
+      };
+      here = ap (λ (x : ClientState). slice_get x.servers host) state ∙ slice_get-set_same w.servers host t s there;
       next = λ rest h.
           ap (λ (p : Point). p.owed) a.point_now
-          ∙ ap (λ (os : List Owed). os ++ drop 1 between.point.owed) (pool_owes-shut between.point.state host (leaves s) here paid none) ∙ ap (drop 1) (l.next rest h);
+          ∙ ap (λ (os : List Owed). os ++ drop 1 old.point.owed) (pool_owes-shut w host s there paid)
+          ∙ ap (λ (os : List Owed). owed_shuts host s.pool.state.available ++ drop 1 os) h;
       at = ap (λ (p : Point). p.moment) a.point_now;
-      lists = a.lists_now ∙ l.lists;
-      steps = omega arith;
-      room = omega arith;
+      lists = a.lists_now;
+      steps = ap length a.steps_now ∙ length-with_entry old.steps moment e;
+      room = a.room_used.steps;
+    }
+
+-- behind all of them
+pub Drops-by : (old first second new : Recorded) (moment host : ℕ) (s : ServerState) → Leaves old first moment host s → Closes first second moment host (leaves s) →
+    Shuts moment host s.pool.state.available (behind_group moment pool.Shut (leaves s)) second new → Drops moment host s old new
+Drops-by old first second new moment host s l c h =
+    let ss = old.point.state.servers in
+    let t : ServerState = leaves s in
+    let u : ServerState = owing s.pool.state.available (behind_group moment pool.Shut t) in
+    let d : ServerState = dropped moment s in
+    let two : Moves first second (slice_set ss host u) = Moves-at first second ss host t u (ap (λ (w : ClientState). w.servers) l.moves.state) c.moves in
+    let three : Moves second new (slice_set ss host d) = Moves-at second new ss host u d (ap (λ (w : ClientState). w.servers) two.state) h.moves in
+    let one_more = l.steps in
+    let two_more = c.steps in
+    let more = h.steps in
+    let one_used = l.room in
+    let two_used = c.room in
+    let used = h.room in
+    record {
+      moves = Moves-trans old second new (slice_set ss host u) (slice_set ss host d) (Moves-trans old first second (slice_set ss host t) (slice_set ss host u) l.moves two) three;
+      next = λ rest o. h.next rest (c.next rest (l.next rest o));
+      at = h.at;
+      lists = h.lists ∙ c.lists ∙ l.lists;
+      steps = omega (arith, one_more, two_more, more);
+      room = omega (arith, one_used, two_used, used);
     }
 
 -- ---- What is kept
 
--- the stream of its checks was closed, where there was one
-AreKeptServers-left : (old new : Lines) (n : ℕ) (ss : List ServerState) (host : ℕ) (t : ServerState) (began o : Option ℕ) → IfSome o (λ x. KeepsOthers x old new) →
-    IfNone o (new ≡ old) → HasStream old host began o → AreKeptServers old n ss → IsKeptServer new n host t → AreKeptServers new n (slice_set ss host t)
-AreKeptServers-left old new n ss host t began None others same stream kept one =
-    AreKeptServers-set new n ss host t (subst (λ (l : Lines). AreKeptServers l n ss) (sym same) kept) one
-AreKeptServers-left old new n ss host t began (Some x) others same stream kept one =
-    AreKeptServers-closed old new n ss host x t stream.0 stream.1 stream.2 others kept one
+-- the stream of its checks
+pub IsThere-checked : (lines now : Lines) (x : ℕ) (began o stream : Option ℕ) → HasStream lines x began o → now ≡ lines → stream ≡ o → IfSome stream (λ s. IsThere now s)
+IsThere-checked lines now x began o stream h same is =
+    subst (λ (l : Lines). IfSome stream (λ s. IsThere l s)) (sym same) (subst (λ (n : Option ℕ). IfSome n (λ s. IsThere lines s)) (sym is) (by o h))
+  where
+    by : (o : Option ℕ) → HasStream lines x began o → IfSome o (λ s. IsThere lines s)
+    by None h = tt
+    by (Some s) h = record { line = h.0; there = h.1 }
 
--- the closing as it is called: of that stream, with the lines as they are behind the entries
-pub KeepsOthers-closing : (before between lines : Lines) (o stream : Option ℕ) → between ≡ before → stream ≡ o → IfSome stream (λ x. KeepsOthers x between lines) →
-    IfSome o (λ x. KeepsOthers x before lines)
-KeepsOthers-closing before between lines o stream same is h =
-    subst (λ (l : Lines). IfSome o (λ x. KeepsOthers x l lines)) same (subst (λ (n : Option ℕ). IfSome n (λ x. KeepsOthers x between lines)) is h)
+-- is closed behind those of its connections
+pub KeepsUses-left : (old between new : Lines) (host : ℕ) (began o : Option ℕ) → HasStream between host began o → KeepsUses (is_of_pool host) old between →
+    IfSome o (λ s. KeepsOthers s between new) → (o ≡ None → new ≡ between) → KeepsUses (is_of_host host) old new
+KeepsUses-left old between new host began o h first others none =
+    KeepsUses-trans (is_of_host host) old between new (KeepsUses-weaken (is_of_pool host) (is_of_host host) old between (λ u of. inr of) first) (by o h others none)
+  where
+    by : (o : Option ℕ) → HasStream between host began o → IfSome o (λ s. KeepsOthers s between new) → (o ≡ None → new ≡ between) → KeepsUses (is_of_host host) between new
+    by None h others none = KeepsUses-same (is_of_host host) between new (none refl)
+    by (Some s) h others none = KeepsUses-closed (is_of_host host) between new s h.0 h.1 (inl h.2) others
 
-pub same-closing : (before between lines : Lines) (o stream : Option ℕ) → between ≡ before → stream ≡ o → IfNone stream (lines ≡ between) → IfNone o (lines ≡ before)
-same-closing before between lines o stream same is h =
-    subst (λ (l : Lines). IfNone o (lines ≡ l)) same (subst (λ (n : Option ℕ). IfNone n (lines ≡ between)) is h)
-
-pub standing-dropped : (ss : List ServerState) (host moment : ℕ) (s : ServerState) → slice_get ss host ≡ Some s → s.has_left ≡ false →
-    standing (slice_set ss host (dropped moment s)) + 1 ≡ standing ss
-standing-dropped ss host moment s there stays = standing-set_left ss host s (dropped moment s) there stays refl
+pub closings-dropped : (ss : List ServerState) (host moment : ℕ) (s : ServerState) → slice_get ss host ≡ Some s → s.has_left ≡ false →
+    closings (slice_set ss host (dropped moment s)) + (length s.pool.state.available + 1) ≡ closings ss
+closings-dropped ss host moment s there stays =
+    let set = closings-set ss host s (dropped moment s) there in
+    let is = closing_of-stays s stays in
+    omega (arith, set, is)
 
 pub LeadsTo-dropped : (old new : Recorded) (before lines : Lines) (topology : Topology) (ss : List ServerState) (time : Option ClusterTime) (last moment host : ℕ) (s : ServerState) →
-    Drops old new moment host s → slice_get ss host ≡ Some s → s.has_left ≡ false → moment ≤ last → standing ss + 1 ≤ old.room.steps →
-    IfSome s.check_stream (λ x. KeepsOthers x before lines) → IfNone s.check_stream (lines ≡ before) →
+    Drops moment host s old new → slice_get ss host ≡ Some s → s.has_left ≡ false → moment ≤ last → closings ss + 1 ≤ old.room.steps → KeepsUses (is_of_host host) before lines →
     LeadsTo old before topology ss time last → LeadsTo new lines topology (slice_set ss host (dropped moment s)) time last
-LeadsTo-dropped old new before lines topology ss time last moment host s d there stays now room others same h =
+LeadsTo-dropped old new before lines topology ss time last moment host s d there stays now room uses h =
     let t = dropped moment s in
     let address : ServerState → Address = λ u. u.address in
     let is = servers-of old before topology ss time last h in
     let m : Moves old new (slice_set ss host t) = subst (λ zs. Moves old new (slice_set zs host t)) is d.moves in
-    let fewer = standing-dropped ss host moment s there stays in
+    let fewer = closings-dropped ss host moment s there stays in
     let steps = d.steps in
     let used = d.room in
     let at = d.at in
@@ -255,21 +245,21 @@ LeadsTo-dropped old new before lines topology ss time last moment host s d there
     let kept = AreKeptServers-more before (length old.steps) (length new.steps) ss (omega arith) h.kept in
     LeadsTo-moves old new before lines topology ss (slice_set ss host t) time last m (omega arith)
     (ap (λ (l : Lists). l.names) d.lists ∙ h.names ∙ sym (map-set address ss host t s there refl)) (rw length-set numbers) (omega arith)
-    (AreKeptServers-left before lines (length new.steps) ss host t s.checks.began s.check_stream others same (h.kept host s there).checked kept
+    (AreKeptServers-left before lines (length new.steps) host ss t uses kept
     (IsKeptServer-dropped lines before (length old.steps) (length new.steps) host moment s (omega arith) (h.kept host s there)))
     h
 
-pub IsKept-dropped : (old new : Recorded) (before lines : Lines) (topology : Topology) (ss : List ServerState) (time : Option ClusterTime) (count last moment host : ℕ) (stopped : Bool)
-    (s t : ServerState) → Drops old new moment host s → slice_get ss host ≡ Some s → s.has_left ≡ false → moment ≤ last → count + 1 ≤ old.room.steps →
-    IfSome s.check_stream (λ x. KeepsOthers x before lines) → IfNone s.check_stream (lines ≡ before) → t ≡ dropped moment s →
-    IsKept old before topology ss time count last stopped → IsKept new lines topology (slice_set ss host t) time (count - 1) last stopped
-IsKept-dropped old new before lines topology ss time count last moment host stopped s t d there stays now room others same is k =
-    let fewer = standing-dropped ss host moment s there stays in
+pub IsKept-dropped : (old new : Recorded) (before lines : Lines) (topology : Topology) (ss : List ServerState) (time : Option ClusterTime) (count last moment host n : ℕ) (stopped : Bool)
+    (s t : ServerState) → Drops moment host s old new → slice_get ss host ≡ Some s → s.has_left ≡ false → moment ≤ last → count + 1 ≤ old.room.steps →
+    n ≡ length s.pool.state.available + 1 → KeepsUses (is_of_host host) before lines → t ≡ dropped moment s →
+    IsKept old before topology ss time count last stopped → IsKept new lines topology (slice_set ss host t) time (count - n) last stopped
+IsKept-dropped old new before lines topology ss time count last moment host n stopped s t d there stays now room size uses is k =
+    let fewer = closings-dropped ss host moment s there stays in
     let counted = k.counted in
-    subst (λ (u : ServerState). IsKept new lines topology (slice_set ss host u) time (count - 1) last stopped) (sym is)
+    subst (λ (u : ServerState). IsKept new lines topology (slice_set ss host u) time (count - n) last stopped) (sym is)
     (record {
-      leads = λ runs. LeadsTo-dropped old new before lines topology ss time last moment host s d there stays now (omega arith) others same (k.leads runs);
-      counted = omega arith;
+      leads = λ runs. LeadsTo-dropped old new before lines topology ss time last moment host s d there stays now (omega arith) uses (k.leads runs);
+      counted = omega (arith, fewer, counted, size);
       in_range = k.in_range;
     })
 
@@ -280,7 +270,7 @@ read-there ss host s x there read =
     let same : Some x ≡ Some s = sym is ∙ there in
     (cc)
 
-pub IsUntouched-dropped : (old new : Recorded) (moment host : ℕ) (s t : ServerState) (a : Address) → Drops old new moment host s →
+pub IsUntouched-dropped : (old new : Recorded) (moment host : ℕ) (s t : ServerState) (a : Address) → Drops moment host s old new →
     slice_get old.point.state.servers host ≡ Some s → slice_get old.point.state.servers host ≡ Some t → is_same_address t.address a ≡ false →
     IsUntouched old.point.state new.point.state a
 IsUntouched-dropped old new moment host s t a d there also differ =

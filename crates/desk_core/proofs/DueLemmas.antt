@@ -1,12 +1,12 @@
 -- Of the servers before a place, whose check comes next.
 use Rattle.std.proofs.Common.{◌≡◌, ◌≤◌, ◌<◌, ℕ, ◌+◌, Bool, true, false, List, length, Option, None, Some, refl, sym, ap, ◌∙◌, subst, arith, ◌⊎◌, inl, inr}
-use Rattle.std.specs.Prelude.{slice_get, nat_lt, if◌then◌else◌}
+use Rattle.std.specs.Prelude.{slice_get, if◌then◌else◌}
 use Rattle.std.proofs.lemmas.Bool.{cases_lt}
 use Rattle.std.proofs.lemmas.Bool.{ltb-true, ltb-false}
 use Rattle.std.proofs.lemmas.Option.{slice_get_within}
 use Rattle.desk_trail.specs.States.{ClientState, ServerState}
 use Rattle.desk_core.specs.declared.sight.Due.{Due}
-use Rattle.desk_core.specs.Due.{IsDueAt, IsNext, IsNextDue, due_at, is_earlier, nearer}
+use Rattle.desk_core.specs.Due.{IsDueAt, IsNext, due_at, is_earlier, nearer}
 
 -- a check comes next of the servers before a place
 pub record IsFirst (ss : List ServerState) (last n : ℕ) (due : Due) : Type 0 where

@@ -1,5 +1,5 @@
 -- What must follow a change of the topology, part by part as it is written.
-use Rattle.std.proofs.Common.{◌≡◌, ◌≤◌, ℕ, ◌+◌, ◌*◌, Bool, true, false, if◌then◌else◌, List, [], ◌∷◌, ◌++◌, map, length, Option, None, Some, refl, sym, ap, ◌∙◌, subst, arith, append_assoc}
+use Rattle.std.proofs.Common.{◌≡◌, ◌≤◌, ℕ, ◌+◌, ◌*◌, false, if◌then◌else◌, List, [], ◌∷◌, ◌++◌, map, length, Option, None, Some, refl, sym, ap, ◌∙◌, subst, arith, append_assoc}
 use Rattle.std.specs.List.{cons_option, filter_map}
 use Rattle.std.specs.Option.{option_and_then, option_map_or}
 use Rattle.std.specs.Prelude.{slice_get}
@@ -9,7 +9,7 @@ use Rattle.pool_book.specs.Pool.{is_paused}
 use Rattle.desk_trail.specs.Owed.{Owed}
 use Rattle.desk_trail.specs.Owed as owed
 use Rattle.desk_trail.specs.States.{ClientState, ServerState, number_of}
-use Rattle.desk_trail.specs.Topologies.{cleared, is_paused_at, readied}
+use Rattle.desk_trail.specs.Topologies.{cleared, readied}
 use Rattle.desk_core.specs.Follows.{AreApart, AreNone, IsNone, IsNoneOf, entries_for, owed_by}
 use Rattle.desk_core.specs.Kept.{IsWriting}
 use Rattle.desk_core.specs.Servers.{IsUntouched}

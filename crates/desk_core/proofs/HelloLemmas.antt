@@ -1,12 +1,11 @@
 -- What holds of a hello and of its reply.
-use Rattle.std.proofs.Common.{◌≡◌, ◌≤◌, ℕ, Bool, true, false, List, length, Option, None, Some, refl, sym, subst, arith}
-use Rattle.std.specs.Prelude.{Result, Ok, Err, nat_le, if◌then◌else◌}
+use Rattle.std.proofs.Common.{◌≡◌, ◌≤◌, Bool, true, false, List, length, Option, None, Some, refl, sym, subst, arith}
+use Rattle.std.specs.Prelude.{Ok, Err, nat_le, if◌then◌else◌}
 use Rattle.std.proofs.lemmas.Bool.{leb-true}
 use Rattle.msg_wire.specs.Flags.{refused_bit}
 use Rattle.bson_doc.specs.declared.name.Name.{Name}
 use Rattle.bson_doc.specs.declared.value.Value.{Value}
 use Rattle.host_name.specs.Addresses.{Address}
-use Rattle.hello_reply.specs.declared.fault.ReplyFault.{ReplyFault}
 use Rattle.hello_reply.specs.declared.field_name.FieldName.{FieldName}
 use Rattle.hello_reply.specs.declared.server_description.ServerDescription.{ServerDescription}
 use Rattle.hello_reply.specs.Descriptions.{described, describes, judged, unknown}

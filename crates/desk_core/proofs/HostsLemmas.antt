@@ -9,7 +9,7 @@ use Rattle.host_name.specs.Addresses.{Address, is_same_address}
 use Rattle.desk_trail.specs.Owed.{Owed}
 use Rattle.desk_trail.specs.Owed as owed
 use Rattle.desk_trail.specs.States.{ClientState, number_of}
-use Rattle.desk_core.specs.Appends.{Appends}
+use Rattle.desk_core.specs.Appends.{AppendsAside}
 use Rattle.desk_core.specs.Follows.{IsNone}
 use Rattle.desk_core.specs.Kept.{IsWriting}
 use Rattle.desk_core.specs.Rests.{KeepsChecks}
@@ -71,7 +71,7 @@ pub record AreNamed {N : Type 0} (moment : ℕ) (old new : Core N) (hosts : List
   pub others : (a : Address) → IsNone a (take k hosts) → IsUntouched old.trail.point.state new.trail.point.state a
   pub checks : KeepsChecks old.trail.point.state new.trail.point.state
   pub names : new.trail.lists.names ≡ old.trail.lists.names ++ take k hosts
-  pub appends : Appends ⊥ moment old.trail new.trail
+  pub appends : AppendsAside ⊥ moment old.trail new.trail
 
 pub AreNamed-start : {N : Type 0} (moment : ℕ) (d : Core N) (hosts : List Address) → AreNamed moment d d hosts 0
 AreNamed-start {N} moment d hosts = record {
@@ -94,7 +94,7 @@ AreNamed-writes {N} moment old new hosts k x rest n named below read w =
 pub AreNamed-next : {N : Type 0} (moment : ℕ) (old new now : Core N) (hosts : List Address) (k : ℕ) (x : Address) → AreNamed moment old new hosts k → k < length hosts →
     x ≡ get_or hosts k x → ((rest : List Owed) (n : ℕ) → IsWriting new moment (n + 2) (owed.Named x ∷ rest) → IsWriting now moment n rest) →
     TouchesOnly x new.trail.point.state now.trail.point.state → KeepsChecks new.trail.point.state now.trail.point.state →
-    now.trail.lists.names ≡ new.trail.lists.names ++ x ∷ [] → Appends ⊥ moment new.trail now.trail → AreNamed moment old now hosts (k + 1)
+    now.trail.lists.names ≡ new.trail.lists.names ++ x ∷ [] → AppendsAside ⊥ moment new.trail now.trail → AreNamed moment old now hosts (k + 1)
 AreNamed-next {N} moment old new now hosts k x named below read writes others checks names appends = record {
   writes = λ rest n w.
       writes (names_owed (drop (k + 1) hosts) ++ rest) (n + 2 * length (drop (k + 1) hosts))
@@ -114,7 +114,7 @@ pub record AllNamed {N : Type 0} (moment : ℕ) (old new : Core N) (hosts : List
   pub writes : (rest : List Owed) (n : ℕ) → IsWriting old moment (n + 2 * length hosts) (map (λ h. owed.Named h) hosts ++ rest) → IsWriting new moment n rest
   pub others : (a : Address) → IsNone a hosts → IsUntouched old.trail.point.state new.trail.point.state a
   pub names : new.trail.lists.names ≡ old.trail.lists.names ++ hosts
-  pub appends : Appends ⊥ moment old.trail new.trail
+  pub appends : AppendsAside ⊥ moment old.trail new.trail
 
 pub AllNamed-end : {N : Type 0} (moment : ℕ) (old new : Core N) (hosts : List Address) (k : ℕ) → length hosts ≤ k → AreNamed moment old new hosts k →
     AllNamed moment old new hosts
@@ -162,7 +162,7 @@ pub record AreDropped {N : Type 0} (moment : ℕ) (old new : Core N) (hosts : Li
   pub others : (a : Address) → IsNone a (take k hosts) → IsUntouched old.trail.point.state new.trail.point.state a
   pub checks : KeepsChecks old.trail.point.state new.trail.point.state
   pub names : new.trail.lists.names ≡ old.trail.lists.names
-  pub appends : Appends ⊥ moment old.trail new.trail
+  pub appends : AppendsAside ⊥ moment old.trail new.trail
 
 pub AreDropped-start : {N : Type 0} (moment : ℕ) (d : Core N) (hosts : List Address) → AreDropped moment d d hosts 0
 AreDropped-start {N} moment d hosts = record {
@@ -195,7 +195,7 @@ pub AreDropped-next : {N : Type 0} (moment : ℕ) (old new now : Core N) (hosts 
     AreDropped moment old new hosts k → k < length hosts → x ≡ get_or hosts k x →
     ((rest : List Owed) (n : ℕ) → IsWriting new moment (n + 1) (map (λ y. owed.Dropped y) (option_to_list (number_of new.trail.point.state x)) ++ rest) → IsWriting now moment n rest) →
     TouchesOnly x new.trail.point.state now.trail.point.state → KeepsChecks new.trail.point.state now.trail.point.state →
-    now.trail.lists.names ≡ new.trail.lists.names → Appends ⊥ moment new.trail now.trail → AreDropped moment old now hosts (k + 1)
+    now.trail.lists.names ≡ new.trail.lists.names → AppendsAside ⊥ moment new.trail now.trail → AreDropped moment old now hosts (k + 1)
 AreDropped-next {N} moment old new now hosts k x differ dropped below read writes others checks names appends = record {
   writes = λ rest n w.
       writes (drops_owed old.trail.point.state (drop (k + 1) hosts) ++ rest) (n + length (drop (k + 1) hosts))

@@ -17,9 +17,10 @@ use Rattle.desk_trail.specs.Written.{IsAtLeast, a_name, with_entry}
 use Rattle.legal_trail.specs.Recorded.{Adds, Recorded}
 use Rattle.wired_trail.specs.Lines.{Lines}
 use Rattle.wired_trail.specs.Standing.{Standing}
-use Rattle.desk_core.specs.Kept.{IsKept, LeadsTo, client_of}
-use Rattle.desk_core.specs.Servers.{AreKeptServers, standing}
-use Rattle.desk_core.proofs.ServerLemmas.{AreKeptServers-append, AreKeptServers-more, standing-append}
+use Rattle.desk_core.specs.Moves.{Moves}
+use Rattle.desk_core.specs.Kept.{IsKept, LeadsTo, client_of, with_these}
+use Rattle.desk_core.specs.Servers.{AreKeptServers, closings}
+use Rattle.desk_core.proofs.ServerLemmas.{AreKeptServers-append, AreKeptServers-more, closings-append}
 
 -- ---- Room alone
 
@@ -48,25 +49,20 @@ IsKept-room {N} old new topology ss time count last stopped same more k = record
 
 -- ---- Entries that change the servers alone
 
--- the client changes in its servers alone, which are these now
-pub record Moves (old new : Recorded) (servers : List ServerState) : Type 0 where
-  pub client : new.client ≡ old.client
-  pub events : new.lists.events ≡ old.lists.events
-  pub requests : new.lists.requests ≡ old.lists.requests
-  pub state : new.point.state ≡ record old.point.state { servers = servers }
-  pub time : new.point.time ≡ old.point.time
-
-pub client_of-same : (old new : Recorded) (topology : Topology) (ss : List ServerState) → new.client ≡ old.client → new.lists.events ≡ old.lists.events →
-    new.lists.requests ≡ old.lists.requests → new.point.state.streams ≡ old.point.state.streams → client_of old topology ss ≡ client_of new topology ss
-client_of-same old new topology ss client events requests streams = rw (client, events, requests, streams) refl
+-- a client that is as it was, these aside
+pub restated : (new : Recorded) (v : ClientState) (events requests : ℕ) (topology : Topology) (ss : List ServerState) → new.point.state ≡ v →
+    v ≡ with_these v events requests topology ss → events ≡ length new.lists.events → requests ≡ length new.lists.requests → new.point.state ≡ client_of new topology ss
+restated new v events requests topology ss state is offered asked =
+    state ∙ is ∙ ap (λ (w : ClientState). with_these w events requests topology ss) (sym state)
+    ∙ (λ i. with_these new.point.state (offered i) (asked i) topology ss)
 
 pub LeadsTo-moves : (old new : Recorded) (before lines : Lines) (topology : Topology) (ss now : List ServerState) (time : Option ClusterTime) (last : ℕ) →
     Moves old new now → new.point.moment ≤ last → new.lists.names ≡ map (λ (s : ServerState). s.address) now → length now ≤ 2 ^ 32 →
-    standing now ≤ new.room.steps → AreKeptServers lines (length new.steps) now → LeadsTo old before topology ss time last → LeadsTo new lines topology now time last
+    closings now ≤ new.room.steps → AreKeptServers lines (length new.steps) now → LeadsTo old before topology ss time last → LeadsTo new lines topology now time last
 LeadsTo-moves old new before lines topology ss now time last m moment names numbers room kept h = record {
   state =
-      m.state ∙ ap (λ (w : ClientState). record w { servers = now }) h.state
-      ∙ client_of-same old new topology now m.client m.events m.requests (ap (λ (w : ClientState). w.streams) m.state);
+      restated new (record (client_of old topology ss) { servers = now }) (length old.lists.events) (length old.lists.requests) topology now
+      (m.state ∙ ap (λ (w : ClientState). record w { servers = now }) h.state) refl (ap length (sym m.events)) (ap length (sym m.requests));
   greatest = m.time ∙ h.greatest;
   moment = moment;
   names = names;
@@ -105,7 +101,7 @@ Moves-named old new names moment x a e h = record {
 
 pub LeadsTo-named : (old new : Recorded) (lines : Lines) (topology : Topology) (ss : List ServerState) (time : Option ClusterTime) (last moment x : ℕ) (a : Address) (e : Entry) →
     Adds a_name (record old.lists { names = old.lists.names ++ a ∷ [] }) moment e (fact.Named x a) old new → length old.lists.names < 2 ^ 32 → last ≡ moment →
-    standing ss + 1 ≤ new.room.steps → 0 < (fresh_server old.client moment a).checks.beat → LeadsTo old lines topology ss time last →
+    closings ss + 1 ≤ new.room.steps → 0 < (fresh_server old.client moment a).checks.beat → LeadsTo old lines topology ss time last →
     LeadsTo new lines topology (ss ++ fresh_server old.client moment a ∷ []) time last
 LeadsTo-named old new lines topology ss time last moment x a e adds few now room paced h =
     let s : ServerState = fresh_server old.client moment a in
@@ -117,9 +113,9 @@ LeadsTo-named old new lines topology ss time last moment x a e adds few now room
     let at : new.point.moment ≡ moment = ap (λ (p : Point). p.moment) adds.point_now in
     LeadsTo-moves old new lines lines topology ss (ss ++ s ∷ []) time last m (omega arith)
     (ap (λ (l : Lists). l.names) adds.lists_now ∙ ap (λ l. l ++ a ∷ []) h.names ∙ sym (map-append address ss (s ∷ [])))
-    (rw (length-append ss) (omega arith)) (rw (standing-append ss s refl) room)
+    (rw (length-append ss) (omega arith)) (rw (closings-append ss s) room)
     (AreKeptServers-append lines (length new.steps) ss s (AreKeptServers-more lines (length old.steps) (length new.steps) ss (omega arith) h.kept)
-    (record { paid = refl; none = refl; is_open = λ k. refl; generation = omega arith; checked = refl; paced = paced }))
+    (record { paid = refl; is_open = λ k. refl; generation = omega arith; entered = omega arith; checked = refl; paced = paced }))
     h
 
 pub IsKept-named : (old new : Recorded) (before lines : Lines) (topology : Topology) (ss items : List ServerState) (time : Option ClusterTime) (count last moment x : ℕ)
@@ -134,7 +130,7 @@ IsKept-named old new before lines topology ss items time count last moment x sto
     (record {
       leads = λ runs.
           LeadsTo-named old new before topology ss time last moment x a e adds few now (omega arith) (subst (λ (t : ServerState). 0 < t.checks.beat) fresh paced) (k.leads runs);
-      counted = ap (λ n. n + 1) counted ∙ sym (standing-append ss (fresh_server old.client moment a) refl);
+      counted = ap (λ n. n + 1) counted ∙ sym (closings-append ss (fresh_server old.client moment a));
       in_range = k.in_range;
     }))
 

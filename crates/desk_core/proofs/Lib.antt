@@ -5,6 +5,7 @@ mod KeptLemmas
 mod CheckLemmas
 mod DueLemmas
 mod ShutLemmas
+mod UseLemmas
 mod PoolLemmas
 mod FollowLemmas
 mod ApartLemmas

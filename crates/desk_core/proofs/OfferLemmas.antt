@@ -1,5 +1,5 @@
 -- A desk behind an event that was offered.
-use Rattle.std.proofs.Common.{◌≡◌, ◌≤◌, ℕ, ◌+◌, Bool, true, false, cond, if◌then◌else◌, List, [], ◌∷◌, ◌++◌, map, length, Option, None, Some, refl, sym, ap, ◌∙◌, subst, arith}
+use Rattle.std.proofs.Common.{◌≡◌, ◌≤◌, ℕ, ◌+◌, Bool, true, false, if◌then◌else◌, List, [], ◌∷◌, ◌++◌, map, length, Option, None, refl, sym, ap, ◌∙◌, subst, arith}
 use Rattle.std.specs.Prelude.{OnOk}
 use Rattle.std.specs.declared.result.Result.{Result}
 use Rattle.std.specs.declared.result.Result.TheVariants.{Ok, Err}
@@ -14,7 +14,7 @@ use Rattle.topo_rules.specs.declared.topology.Topology.{Topology}
 use Rattle.topo_rules.specs.Changes.{IsChange}
 use Rattle.topo_rules.specs.Rules as rules
 use Rattle.topo_book.specs.Fresh.{is_accepted_verdict, taken}
-use Rattle.topo_book.specs.Offers.{IfAccepted, is_accepted, verdict_of}
+use Rattle.topo_book.specs.Offers.{IfAccepted, is_accepted}
 use Rattle.topo_book.specs.declared.taken.Taken.{Taken}
 use Rattle.topo_book.specs.declared.taken.Taken.TheVariants as answer
 use Rattle.topo_book.specs.declared.verdict.Verdict.{Verdict}
@@ -27,16 +27,16 @@ use Rattle.desk_trail.specs.Facts as fact
 use Rattle.desk_trail.specs.Legal.{Point, StandsAt, owes}
 use Rattle.desk_trail.specs.Owed.{Owed, left_owed}
 use Rattle.desk_trail.specs.Owed as owed
-use Rattle.desk_trail.specs.States.{ClientState, ServerState, fresh_client, number_of}
+use Rattle.desk_trail.specs.States.{ClientState, ServerState, number_of}
 use Rattle.desk_trail.specs.Topologies.{Says, generation_in, server_with, asked_at, asks_of, cleared, offered_after, offered_owes, owed_by_change, readied, topology_after, verdict_on}
 use Rattle.desk_trail.specs.Written.{an_event}
 use Rattle.legal_trail.specs.Recorded.{Adds, Recorded}
 use Rattle.wired_trail.specs.Lines.{Lines as WireLines}
 use Rattle.desk_core.specs.Follows.{IsToOffer, owed_by}
 use Rattle.desk_core.specs.Kept.{IsKept, IsWriting, LeadsTo, client_of}
-use Rattle.desk_core.specs.Servers.{standing}
+use Rattle.desk_core.specs.Servers.{closings}
 use Rattle.desk_core.specs.State.{Core}
-use Rattle.desk_core.proofs.KeptLemmas.{length-with_entry}
+use Rattle.desk_core.proofs.KeptLemmas.{length-with_entry, restated}
 use Rattle.desk_core.proofs.ServerLemmas.{AreKeptServers-more}
 
 -- ---- The entry may stand
@@ -65,19 +65,10 @@ offered-plain moment event w h =
     by true t = refl
     by false t = refl
 
-abbrev client_by : Client → ℕ → ℕ → List ℕ → Topology → List ServerState → ClientState
-client_by client events requests streams topology servers = record (fresh_client client) {
-  topology = topology;
-  events = events;
-  servers = servers;
-  requests = requests;
-  streams = streams;
-}
-
 pub LeadsTo-offered : (old new : Recorded) (lines : WireLines) (before after : Topology) (servers : List ServerState) (time : Option ClusterTime) (last moment place : ℕ)
     (event : TopoEvent) (how : OfferedHow) (e : Entry) → LeadsTo old lines before servers time last →
     Adds an_event (record old.lists { events = old.lists.events ++ event ∷ [] }) moment e (fact.Offered place event how) old new → asks_of event ≡ None →
-    after ≡ topology_after old.point.state event → moment ≤ last → standing servers + 1 ≤ old.room.steps → LeadsTo new lines after servers time last
+    after ≡ topology_after old.point.state event → moment ≤ last → closings servers + 1 ≤ old.room.steps → LeadsTo new lines after servers time last
 LeadsTo-offered old new lines before after servers time last moment place event how e l a plain is in_time space =
     let w = old.point.state in
     let lists = a.lists_now in
@@ -88,12 +79,11 @@ LeadsTo-offered old new lines before after servers time last moment place event 
     ap (λ (p : Point). p.state) a.point_now ∙ offered-plain moment event w plain
     ∙ ap (λ (t : Topology). record w { topology = t; events = w.events + 1 }) (sym is)
     ∙ ap (λ (v : ClientState). record v { topology = after; events = v.events + 1 }) l.state in
-    let streams = ap (λ (v : ClientState). v.streams) state in
     let requests = ap (λ (x : Lists). length x.requests) lists in
-    let same : client_by old.client (length old.lists.events + 1) (length old.lists.requests) old.point.state.streams after servers ≡ client_of new after servers =
-    λ i. client_by (sym a.same_client i) (sym events i) (sym requests i) (sym streams i) after servers in
     record {
-      state = state ∙ same;
+      state =
+          restated new (record (client_of old before servers) { topology = after; events = length old.lists.events + 1 }) (length old.lists.events + 1) (length old.lists.requests) after servers
+          state refl (sym events) (sym requests);
       greatest = ap (λ (p : Point). p.time) a.point_now ∙ l.greatest;
       moment = subst (λ (p : Point). p.moment ≤ last) (sym a.point_now) in_time;
       names = ap (λ (x : Lists). x.names) lists ∙ l.names;
@@ -133,7 +123,7 @@ refused-owes w event refused = ap (λ (b : Bool). if b then owed_by_change w eve
 
 pub IsWriting-after : {N : Type 0} (d : Core N) (old : Recorded) (used : Room) (lists : Lists) (moment n : ℕ) (first : Owed) (rest more : List Owed) (entry : Entry) (f : Fact) →
     old.point.owed ≡ first ∷ rest → Adds used lists moment entry f old d.trail → owes old.client moment old.point.state f ≡ more → left_owed (first ∷ rest) f ≡ rest →
-    d.is_stopped ≡ false → d.last ≡ moment → d.standing + n ≤ d.trail.room.steps → IsWriting d moment n (more ++ rest)
+    d.is_stopped ≡ false → d.last ≡ moment → d.closings + n ≤ d.trail.room.steps → IsWriting d moment n (more ++ rest)
 IsWriting-after d old used lists moment n first rest more entry f o a owes left runs last space = record {
   runs = runs;
   owes = ap (λ (p : Point). p.owed) a.point_now ∙ (λ i. owes i ++ (ap (λ (xs : List Owed). left_owed xs f) o ∙ left) i);

@@ -1,15 +1,17 @@
 -- A desk behind an entry that changes one server: where its trail leads, and what it writes next.
-use Rattle.std.proofs.Common.{◌≡◌, ◌≤◌, ◌<◌, ℕ, ◌+◌, Bool, true, false, List, [], ◌∷◌, ◌++◌, length, map, drop, Option, None, Some, refl, sym, ap, ◌∙◌, subst, arith, length-set, ◌⊎◌, inl, inr}
+use Rattle.std.proofs.Common.{◌≡◌, ◌≤◌, ℕ, ◌+◌, Bool, true, false, List, [], ◌∷◌, ◌++◌, length, Option, None, Some, refl, sym, ap, ◌∙◌, subst, arith, length-set}
 use Rattle.std.specs.Prelude.{slice_get, slice_set, if◌then◌else◌}
 use Rattle.std.specs.Option.{option_map_or}
 use Rattle.bson_doc.specs.declared.cluster_time.ClusterTime.{ClusterTime}
 use Rattle.topo_rules.specs.declared.topology.Topology.{Topology}
 use Rattle.pool_book.specs.Entries as pool
+use Rattle.pool_book.specs.Entries.{PoolEntry}
+use Rattle.pool_book.specs.Judge.{pool_judge}
+use Rattle.entry_judge.specs.Groups.{place_by}
 use Rattle.pool_book.specs.declared.state.PoolState.TheVariants as state_of
-use Rattle.pool_book.specs.Pool.{is_closed, is_paused}
+use Rattle.pool_book.specs.Pool.{Pool, is_closed, is_paused}
 use Rattle.host_name.specs.Addresses.{Address}
 use Rattle.desk_trail.specs.declared.entry.Entry.{Entry}
-use Rattle.desk_trail.specs.declared.room.Room.{Room}
 use Rattle.desk_trail.specs.declared.step.Step.{Step}
 use Rattle.desk_trail.specs.Clients.{Client}
 use Rattle.desk_trail.specs.Facts.{Fact, Lists}
@@ -18,15 +20,16 @@ use Rattle.desk_trail.specs.Legal.{Point, StandsAt, client_after, owes, time_by}
 use Rattle.desk_trail.specs.Owed.{Owed, left_owed}
 use Rattle.desk_trail.specs.Owed as owed
 use Rattle.desk_trail.specs.Pools.{with_pool}
-use Rattle.desk_trail.specs.States.{ClientState, ServerState, changed_at, fresh_client, number_from, number_of, with_server}
+use Rattle.desk_trail.specs.States.{ClientState, ServerState, changed_at, number_of, with_server}
 use Rattle.desk_trail.specs.Topologies.{is_paused_at, readied}
 use Rattle.desk_trail.specs.Written.{an_entry, with_entry}
 use Rattle.legal_trail.specs.Recorded.{Adds, Recorded}
 use Rattle.wired_trail.specs.Lines.{Lines as WireLines}
 use Rattle.desk_core.specs.Kept.{IsKept, IsWriting, LeadsTo, client_of}
-use Rattle.desk_core.specs.Servers.{AreKeptServers, IsKeptServer, standing}
+use Rattle.desk_core.specs.Servers.{AreKeptServers, IsKeptServer, closing_of, closings}
 use Rattle.desk_core.specs.State.{Core}
-use Rattle.desk_core.proofs.ServerLemmas.{AreKeptServers-more, AreKeptServers-set, map-set, number_from-set, standing-set_kept, stands_at-kept}
+use Rattle.desk_core.proofs.KeptLemmas.{restated}
+use Rattle.desk_core.proofs.ServerLemmas.{AreKeptServers-more, AreKeptServers-set, closing_of-kept, closings-set_kept, map-set, number_from-set, stands_at-kept}
 
 -- ---- What is read off the point
 
@@ -69,20 +72,6 @@ StandsAt-clear client p moment host rest s o m going there paid = record {
 
 -- ---- Where the trail leads
 
--- the client of those lists
-abbrev client_by : Client → Lists → List ℕ → Topology → List ServerState → ClientState
-client_by client lists streams topology servers = record (fresh_client client) {
-  topology = topology;
-  events = length lists.events;
-  servers = servers;
-  requests = length lists.requests;
-  streams = streams;
-}
-
-pub client_of-same : (old new : Recorded) (topology : Topology) (servers : List ServerState) → new.client ≡ old.client → new.lists ≡ old.lists →
-    new.point.state.streams ≡ old.point.state.streams → client_of old topology servers ≡ client_of new topology servers
-client_of-same old new topology servers client lists streams = λ i. client_by (sym client i) (sym lists i) (sym streams i) topology servers
-
 -- an entry that changes one server, which stays as far as its place in the topology goes
 pub record Changes (old : Recorded) (moment host : ℕ) (f : Fact) (g : ServerState → ServerState) : Type 0 where
   pub state : client_after old.client moment old.point.state f ≡ with_server old.point.state host g
@@ -90,12 +79,36 @@ pub record Changes (old : Recorded) (moment host : ℕ) (f : Fact) (g : ServerSt
   pub owes : owes old.client moment old.point.state f ≡ []
   pub address : (s : ServerState) → (g s).address ≡ s.address
   pub has_left : (s : ServerState) → (g s).has_left ≡ s.has_left
+  pub closing : (s : ServerState) → closing_of (g s) ≡ closing_of s
+
+-- as many connections are available
+available-ready : (moment : ℕ) (p : Pool) (os : List PoolEntry) → (place_by pool_judge p os (record { at = moment; what = pool.Ready })).state.available ≡ p.available
+available-ready moment p [] = refl
+available-ready moment p (o ∷ os) = refl
+
+available-clear : (moment : ℕ) (p : Pool) (os : List PoolEntry) → (place_by pool_judge p os (record { at = moment; what = pool.Clear })).state.available ≡ p.available
+available-clear moment p [] = refl
+available-clear moment p (o ∷ os) = refl
 
 pub Changes-ready : (old : Recorded) (moment host : ℕ) → Changes old moment host (fact.PoolReady host) (with_pool moment pool.Ready)
-Changes-ready old moment host = record { state = refl; time = refl; owes = refl; address = λ s. refl; has_left = λ s. refl }
+Changes-ready old moment host = record {
+  state = refl;
+  time = refl;
+  owes = refl;
+  address = λ s. refl;
+  has_left = λ s. refl;
+  closing = λ s. closing_of-kept s (with_pool moment pool.Ready s) refl (ap length (available-ready moment s.pool.state s.pool.owed));
+}
 
 pub Changes-clear : (old : Recorded) (moment host : ℕ) → Changes old moment host (fact.PoolClear host) (with_pool moment pool.Clear)
-Changes-clear old moment host = record { state = refl; time = refl; owes = refl; address = λ s. refl; has_left = λ s. refl }
+Changes-clear old moment host = record {
+  state = refl;
+  time = refl;
+  owes = refl;
+  address = λ s. refl;
+  has_left = λ s. refl;
+  closing = λ s. closing_of-kept s (with_pool moment pool.Clear s) refl (ap length (available-clear moment s.pool.state s.pool.owed));
+}
 
 length-with_entry : (steps : List Step) (moment : ℕ) (e : Entry) → length (with_entry steps moment e) ≡ length steps + 1
 length-with_entry [] moment e = refl
@@ -113,15 +126,17 @@ servers-changed old new lines topology servers time last moment host e f g s l a
 pub LeadsTo-changed : (old new : Recorded) (lines : WireLines) (topology : Topology) (servers : List ServerState) (time : Option ClusterTime) (last moment host : ℕ)
     (e : Entry) (f : Fact) (g : ServerState → ServerState) (s : ServerState) → LeadsTo old lines topology servers time last →
     Adds an_entry old.lists moment e f old new → Changes old moment host f g → slice_get servers host ≡ Some s → moment ≤ last →
-    standing servers + 1 ≤ old.room.steps → IsKeptServer lines (length old.steps + 1) host (g s) →
+    closings servers + 1 ≤ old.room.steps → IsKeptServer lines (length old.steps + 1) host (g s) →
     LeadsTo new lines topology (slice_set servers host (g s)) time last
 LeadsTo-changed old new lines topology servers time last moment host e f g s l a c there in_time space one =
     let state = servers-changed old new lines topology servers time last moment host e f g s l a c there in
     let longer : length new.steps ≡ length old.steps + 1 = ap length a.steps_now ∙ length-with_entry old.steps moment e in
-    let stand = standing-set_kept servers host s (g s) there (c.has_left s) in
+    let stand = closings-set_kept servers host s (g s) there (c.closing s) in
     let used : old.room.steps ≡ new.room.steps + 1 = a.room_used.steps in
     record {
-      state = state ∙ client_of-same old new topology (slice_set servers host (g s)) a.same_client a.lists_now (ap (λ (w : ClientState). w.streams) state);
+      state =
+          restated new (client_of old topology (slice_set servers host (g s))) (length old.lists.events) (length old.lists.requests) topology (slice_set servers host (g s)) state refl
+          (ap (λ (l : Lists). length l.events) (sym a.lists_now)) (ap (λ (l : Lists). length l.requests) (sym a.lists_now));
       greatest = ap (λ (p : Point). p.time) a.point_now ∙ c.time ∙ l.greatest;
       moment = subst (λ (p : Point). p.moment ≤ last) (sym a.point_now) in_time;
       names = ap (λ (x : Lists). x.names) a.lists_now ∙ l.names
@@ -143,7 +158,7 @@ IsKept-changed old new lines next topology servers time count last stopped momen
     subst (λ (x : WireLines). IsKept new x topology (slice_set servers host u) time count last stopped) (sym same)
     (subst (λ (v : ServerState). IsKept new lines topology (slice_set servers host v) time count last stopped) (sym is) (record {
       leads = λ r. LeadsTo-changed old new lines topology servers time last moment host e f g s (k.leads runs) a c there (omega arith) (omega arith) one;
-      counted = k.counted ∙ sym (standing-set_kept servers host s (g s) there (c.has_left s));
+      counted = k.counted ∙ sym (closings-set_kept servers host s (g s) there (c.closing s));
       in_range = k.in_range;
     }))
 
@@ -161,10 +176,10 @@ number_of-changed old new lines topology servers time last moment host e f g s a
 
 pub IsWriting-next : {N : Type 0} (d e : Core N) (lists : Lists) (moment n : ℕ) (first : Owed) (rest : List Owed) (entry : Entry) (f : Fact) →
     IsWriting d moment (n + 1) (first ∷ rest) → Adds an_entry lists moment entry f d.trail e.trail → owes d.trail.client moment d.trail.point.state f ≡ [] →
-    left_owed (first ∷ rest) f ≡ rest → e.is_stopped ≡ d.is_stopped → e.last ≡ d.last → e.standing ≡ d.standing → IsWriting e moment n rest
+    left_owed (first ∷ rest) f ≡ rest → e.is_stopped ≡ d.is_stopped → e.last ≡ d.last → e.closings ≡ d.closings → IsWriting e moment n rest
 IsWriting-next d e lists moment n first rest entry f w a none left stopped last stand =
     let used : d.trail.room.steps ≡ e.trail.room.steps + 1 = a.room_used.steps in
-    let space : d.standing + (n + 1) ≤ d.trail.room.steps = w.space in
+    let space : d.closings + (n + 1) ≤ d.trail.room.steps = w.space in
     record {
       runs = stopped ∙ w.runs;
       owes = ap (λ (p : Point). p.owed) a.point_now ∙ ap (λ (xs : List Owed). xs ++ left_owed d.trail.point.owed f) none
@@ -192,9 +207,9 @@ is_paused_at-there w x s there = ap (λ (o : Option ServerState). option_map_or 
 pub IsKeptServer-ready : (lines : WireLines) (m moment x : ℕ) (s : ServerState) → IsKeptServer lines m x s → IsKeptServer lines (m + 1) x (with_pool moment pool.Ready s)
 IsKeptServer-ready lines m moment x s k = record {
   paid = rw k.paid refl;
-  none = rw k.paid k.none;
   is_open = λ stays. rw k.paid refl;
   generation = let g = k.generation in rw k.paid (omega arith);
+  entered = let g = k.entered in rw k.paid (omega arith);
   checked = k.checked;
   paced = k.paced;
 }
@@ -209,9 +224,9 @@ cleared_open s h = elim s.pool.state.state as (λ p. is_closed p ≡ false → i
 pub IsKeptServer-clear : (lines : WireLines) (m moment x : ℕ) (s : ServerState) → IsKeptServer lines m x s → IsKeptServer lines (m + 1) x (with_pool moment pool.Clear s)
 IsKeptServer-clear lines m moment x s k = record {
   paid = rw k.paid refl;
-  none = rw k.paid k.none;
   is_open = λ stays. rw k.paid (cleared_open s (k.is_open stays));
   generation = let g = k.generation in rw k.paid (omega arith);
+  entered = let g = k.entered in rw k.paid (omega arith);
   checked = k.checked;
   paced = k.paced;
 }

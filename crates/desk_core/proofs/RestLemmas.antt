@@ -30,10 +30,10 @@ use Rattle.legal_trail.specs.Recorded.{Adds, Recorded}
 use Rattle.wired_trail.specs.Lines.{Lines}
 use Rattle.desk_core.specs.Ends.{IsEndBy}
 use Rattle.desk_core.specs.Kept.{LeadsTo}
+use Rattle.desk_core.specs.Leaving.{Drops, dropped}
 use Rattle.desk_core.specs.Rests.{HasBegun, HasEnded, HasSameChecks, KeepsChecks}
 use Rattle.desk_core.specs.Sights.{IsAtRest}
 use Rattle.desk_core.proofs.CheckLemmas as check
-use Rattle.desk_core.proofs.DropLemmas.{Drops, dropped}
 use Rattle.desk_core.proofs.OfferLemmas.{offered-plain}
 use Rattle.desk_core.proofs.PoolLemmas.{Changes, servers-changed}
 use Rattle.desk_core.proofs.ServerLemmas.{slice_get-append_left, slice_get-set_same}
@@ -107,8 +107,8 @@ KeepsChecks-changed old new lines topology servers time last moment host e f g s
     (ap (λ (w : ClientState). w.servers) now ∙ ap (λ zs. slice_set zs host (g s)) (sym before))
     (record { address = c.address s; stood = λ n. sym (c.has_left s) ∙ n; checks = λ n. same })
 
--- behind the two entries with which a server leaves
-pub KeepsChecks-dropped : (old new : Recorded) (moment host : ℕ) (s : ServerState) → Drops old new moment host s → slice_get old.point.state.servers host ≡ Some s →
+-- behind the entries with which a server leaves
+pub KeepsChecks-dropped : (old new : Recorded) (moment host : ℕ) (s : ServerState) → Drops moment host s old new → slice_get old.point.state.servers host ≡ Some s →
     KeepsChecks old.point.state new.point.state
 KeepsChecks-dropped old new moment host s d there =
     KeepsChecks-set old.point.state new.point.state host s (dropped moment s) (ap (λ (w : ClientState). w.topology) d.moves.state) there

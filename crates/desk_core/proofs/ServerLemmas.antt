@@ -6,7 +6,7 @@ use Rattle.desk_trail.specs.States.{ClientState, ServerState, number_from, numbe
 use Rattle.wired_trail.specs.Lines.{KeepsOthers, Lines, line_at}
 use Rattle.wired_trail.specs.declared.lines.Line.{Line}
 use Rattle.wired_trail.specs.declared.stream_use.StreamUse.TheVariants as for_use
-use Rattle.desk_core.specs.Servers.{AreKeptServers, HasStream, IsKeptServer, IsUntouched, standing}
+use Rattle.desk_core.specs.Servers.{AreKeptServers, HasStream, IsKeptServer, IsUntouched, closing_of, closings}
 
 -- ---- Addresses
 
@@ -153,52 +153,40 @@ stands_at-apart a s t e n =
     stands_at-other t.has_left (is_same_address t.address a) (ap (λ (x : Address). is_same_address x a) e ∙ n)
     ∙ sym (stands_at-other s.has_left (is_same_address s.address a) n)
 
--- ---- How many stand
+-- ---- How many entries closing their pools takes
 
-pub standing-append : (ss : List ServerState) (s : ServerState) → s.has_left ≡ false → standing (ss ++ s ∷ []) ≡ standing ss + 1
-standing-append [] s h = rw h refl
-standing-append (z ∷ zs) s h =
-    let k = standing-append zs s h in
-    elim z.has_left as (λ b. (if b then standing (zs ++ s ∷ []) else standing (zs ++ s ∷ []) + 1) ≡ (if b then standing zs else standing zs + 1) + 1) [
-      | true ↦ k
-      | false ↦ ap (λ n. n + 1) k
-    ]
+pub closings-append : (ss : List ServerState) (s : ServerState) → closings (ss ++ s ∷ []) ≡ closings ss + closing_of s
+closings-append [] s = omega arith
+closings-append (z ∷ zs) s = let k = closings-append zs s in omega arith
 
-pub standing_within : (ss : List ServerState) → standing ss ≤ length ss
-standing_within [] = omega arith
-standing_within (z ∷ zs) =
-    let k = standing_within zs in
-    elim z.has_left as (λ b. (if b then standing zs else standing zs + 1) ≤ length (z ∷ zs)) [
-      | true ↦ omega arith
-      | false ↦ omega arith
-    ]
+pub closings-set : (ss : List ServerState) (k : ℕ) (s t : ServerState) → slice_get ss k ≡ Some s → closings (slice_set ss k t) + closing_of s ≡ closings ss + closing_of t
+closings-set [] k s t h = absurd (cc)
+closings-set (z ∷ zs) zero s t h =
+    let is : closing_of z ≡ closing_of s = let same : z ≡ s = (cc) in ap closing_of same in omega arith
+closings-set (z ∷ zs) (suc k) s t h = let i = closings-set zs k s t h in omega arith
 
-pub standing-set_kept : (ss : List ServerState) (k : ℕ) (s t : ServerState) → slice_get ss k ≡ Some s → t.has_left ≡ s.has_left → standing (slice_set ss k t) ≡ standing ss
-standing-set_kept [] k s t h e = refl
-standing-set_kept (z ∷ zs) zero s t h e =
-    let is : s ≡ z = (cc) in ap (λ (b : Bool). if b then standing zs else standing zs + 1) (e ∙ ap (λ (x : ServerState). x.has_left) is)
-standing-set_kept (z ∷ zs) (suc k) s t h e = ap (λ n. if z.has_left then n else n + 1) (standing-set_kept zs k s t h e)
+-- of a server that stands where it stood, with as many connections available
+pub closing_of-kept : (s t : ServerState) → t.has_left ≡ s.has_left → length t.pool.state.available ≡ length s.pool.state.available → closing_of t ≡ closing_of s
+closing_of-kept s t left available =
+    ap (λ (b : Bool). if b then 0 else length t.pool.state.available + 1) left ∙ ap (λ n. if s.has_left then 0 else n + 1) available
 
-pub standing-set_left : (ss : List ServerState) (k : ℕ) (s t : ServerState) → slice_get ss k ≡ Some s → s.has_left ≡ false → t.has_left ≡ true →
-    standing (slice_set ss k t) + 1 ≡ standing ss
-standing-set_left [] k s t h stays left = absurd (cc)
-standing-set_left (z ∷ zs) zero s t h stays left =
-    let is : z.has_left ≡ false = let same : z ≡ s = (cc) in ap (λ (x : ServerState). x.has_left) same ∙ stays in rw (is, left) refl
-standing-set_left (z ∷ zs) (suc k) s t h stays left =
-    let i = standing-set_left zs k s t h stays left in
-    elim z.has_left as (λ b. (if b then standing (slice_set zs k t) else standing (slice_set zs k t) + 1) + 1 ≡ (if b then standing zs else standing zs + 1)) [
-      | true ↦ i
-      | false ↦ ap (λ n. n + 1) i
-    ]
+pub closings-set_kept : (ss : List ServerState) (k : ℕ) (s t : ServerState) → slice_get ss k ≡ Some s → closing_of t ≡ closing_of s → closings (slice_set ss k t) ≡ closings ss
+closings-set_kept ss k s t h e = let i = closings-set ss k s t h in omega (arith, e, i)
+
+pub closing_of-stays : (s : ServerState) → s.has_left ≡ false → closing_of s ≡ length s.pool.state.available + 1
+closing_of-stays s e = ap (λ (b : Bool). if b then 0 else length s.pool.state.available + 1) e
+
+pub closing_of-left : (s : ServerState) → s.has_left ≡ true → closing_of s ≡ 0
+closing_of-left s e = ap (λ (b : Bool). if b then 0 else length s.pool.state.available + 1) e
 
 -- ---- What is kept of each
 
 pub IsKeptServer-more : (lines : Lines) (m n x : ℕ) (s : ServerState) → m ≤ n → IsKeptServer lines m x s → IsKeptServer lines n x s
 IsKeptServer-more lines m n x s h k = record {
   paid = k.paid;
-  none = k.none;
   is_open = k.is_open;
   generation = let g = k.generation in omega arith;
+  entered = let g = k.entered in omega arith;
   checked = k.checked;
   paced = k.paced;
 }
@@ -236,9 +224,9 @@ IsKeptServer-closed : (old new : Lines) (stream k n x : ℕ) (s : ServerState) (
     (x ≡ k → ⊥) → KeepsOthers stream old new → IsKeptServer old n x s → IsKeptServer new n x s
 IsKeptServer-closed old new stream k n x s line there is_for apart others kept = record {
   paid = kept.paid;
-  none = kept.none;
   is_open = kept.is_open;
   generation = kept.generation;
+  entered = kept.entered;
   checked = HasStream-closed old new stream k x s.checks.began s.check_stream line there is_for apart others kept.checked;
   paced = kept.paced;
 }

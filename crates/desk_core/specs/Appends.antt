@@ -6,6 +6,7 @@ use Rattle.desk_trail.specs.declared.entry.CheckHow.TheVariants as how
 use Rattle.desk_trail.specs.declared.entry.Entry.{Entry}
 use Rattle.desk_trail.specs.declared.entry.Entry.TheVariants as entry
 use Rattle.desk_trail.specs.declared.step.Step.{Step}
+use Rattle.desk_trail.specs.States.{ClientState}
 use Rattle.legal_trail.specs.Recorded.{Recorded}
 
 -- All that stood in a list stands there still, in the same order.
@@ -36,3 +37,16 @@ pub record Appends (failed : Type 0) (moment : ℕ) (old new : Recorded) : Type 
   pub events : IsLonger old.lists.events new.lists.events
   pub sessions : IsLonger old.lists.sessions new.lists.sessions
   pub requests : IsLonger old.lists.requests new.lists.requests
+
+-- ---- What only private functions cite
+
+-- A client's commands and sessions are as they were.
+pub record KeepsCommands (old new : ClientState) : Type 0 where
+  pub commands : new.commands ≡ old.commands
+  pub sessions : new.sessions ≡ old.sessions
+
+-- A trail is only appended to, and its client's commands and sessions stay as they are: by the entries of checks, and of the topology
+-- and its pools.
+pub record AppendsAside (failed : Type 0) (moment : ℕ) (old new : Recorded) : Type 0 where
+  pub appends : Appends failed moment old new
+  pub aside : KeepsCommands old.point.state new.point.state

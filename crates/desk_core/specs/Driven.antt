@@ -1,5 +1,5 @@
 -- What becomes of the stream of a check that is driven (own).
-use Rattle.std.specs.Prelude.{◌≡◌, ℕ, List, [], Some}
+use Rattle.std.specs.Prelude.{◌≡◌, ℕ, [], Some}
 use Rattle.wired_trail.specs.Lines.{Lines, line_at}
 use Rattle.wired_trail.specs.declared.lines.Line.{Line}
 

@@ -1,5 +1,5 @@
 -- How a check that runs ends, by what the net gave.
-use Rattle.std.specs.Prelude.{◌≡◌, ◌≤◌, ◌<◌, ℕ, ◌-◌, Bool, true, Option, None, Some}
+use Rattle.std.specs.Prelude.{◌≡◌, ◌≤◌, ℕ, ◌-◌, true, Option, None, Some}
 use Rattle.bson_doc.specs.declared.cluster_time.ClusterTime.{ClusterTime}
 use Rattle.host_name.specs.Addresses.{Address}
 use Rattle.topo_rules.specs.declared.event.TopoEvent.{TopoEvent}

@@ -1,26 +1,29 @@
 -- What a desk keeps.
-use Rattle.std.specs.Prelude.{◌≡◌, ◌≤◌, ◌+◌, ◌^◌, ℕ, Bool, true, false, List, [], Option, map, length}
+use Rattle.std.specs.Prelude.{◌≡◌, ◌≤◌, ◌+◌, ◌^◌, ℕ, Bool, false, List, [], Option, map, length}
 use Rattle.std.specs.Option.{option_map}
 use Rattle.bson_doc.specs.declared.cluster_time.ClusterTime.{ClusterTime}
 use Rattle.topo_rules.specs.declared.topology.Topology.{Topology}
-use Rattle.desk_trail.specs.Legal.{Point}
 use Rattle.desk_trail.specs.Owed.{Owed}
-use Rattle.desk_trail.specs.States.{ClientState, ServerState, fresh_client}
+use Rattle.desk_trail.specs.States.{ClientState, ServerState}
 use Rattle.legal_trail.specs.Recorded.{Recorded}
 use Rattle.wired_trail.specs.Lines.{Lines}
-use Rattle.desk_core.specs.Servers.{AreKeptServers, standing}
+use Rattle.desk_core.specs.Servers.{AreKeptServers, closings}
 use Rattle.desk_core.specs.State.{Core}
 
--- The client at the end of the trail, as the desk has it: its topology and servers are those of the desk, its commands did nothing
--- yet, and it has no sessions.
-abbrev pub client_of : Recorded → Topology → List ServerState → ClientState
-client_of trail topology servers = record (fresh_client trail.client) {
+-- A client with these: as many events offered and requests queued, that topology, these servers; and it is not ending.
+abbrev pub with_these : ClientState → (events requests : ℕ) → Topology → List ServerState → ClientState
+with_these w events requests topology servers = record w {
   topology = topology;
-  events = length trail.lists.events;
+  events = events;
   servers = servers;
-  requests = length trail.lists.requests;
-  streams = trail.point.state.streams;
+  requests = requests;
+  is_ending = false;
 }
+
+-- The client at the end of the trail, as the core has it: its topology and servers are those of the core, which is not ending. Of its
+-- commands and sessions the core says nothing.
+abbrev pub client_of : Recorded → Topology → List ServerState → ClientState
+client_of trail topology servers = with_these trail.point.state (length trail.lists.events) (length trail.lists.requests) topology servers
 
 -- The trail leads to what the desk has.
 pub record LeadsTo (trail : Recorded) (lines : Lines) (topology : Topology) (servers : List ServerState) (time : Option ClusterTime) (last : ℕ) : Type 0 where
@@ -29,13 +32,13 @@ pub record LeadsTo (trail : Recorded) (lines : Lines) (topology : Topology) (ser
   pub moment : trail.point.moment ≤ last
   pub names : trail.lists.names ≡ map (λ (s : ServerState). s.address) servers
   pub numbers : length servers ≤ 2 ^ 32
-  pub room : standing servers ≤ trail.room.steps
+  pub room : closings servers ≤ trail.room.steps
   pub kept : AreKeptServers lines (length trail.steps) servers
 
 -- What a desk keeps: unless it stopped, its trail leads to what it has.
 pub record IsKept (trail : Recorded) (lines : Lines) (topology : Topology) (servers : List ServerState) (time : Option ClusterTime) (count last : ℕ) (stopped : Bool) : Type 0 where
   pub leads : stopped ≡ false → LeadsTo trail lines topology servers time last
-  pub counted : count ≡ standing servers
+  pub counted : count ≡ closings servers
   pub in_range : last ≤ 2 ^ 62
 
 -- A desk that writes what must come next at a moment, with room for so many entries beside the closings of its pools.
@@ -44,7 +47,7 @@ pub record IsWriting {N : Type 0} (d : Core N) (moment entries : ℕ) (owed : Li
   pub owes : d.trail.point.owed ≡ owed
   pub at : d.trail.point.moment ≡ moment
   pub now : d.last ≡ moment
-  pub space : d.standing + entries ≤ d.trail.room.steps
+  pub space : d.closings + entries ≤ d.trail.room.steps
 
 -- A desk that may write at a moment whatever may stand next: it runs, nothing must come next, and that is the moment of its step.
 pub record IsReady {N : Type 0} (d : Core N) (moment : ℕ) : Type 0 where

@@ -1,6 +1,9 @@
 pub mod Servers
 pub mod State
 pub mod Kept
+pub mod Moves
+pub mod Shutting
+pub mod Leaving
 pub mod Appends
 pub mod Follows
 pub mod Ends

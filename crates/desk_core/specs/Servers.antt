@@ -1,5 +1,5 @@
 -- The servers of a desk (own: what is kept of each).
-use Rattle.std.specs.Prelude.{◌≡◌, ◌<◌, ℕ, ◌+◌, Bool, true, false, List, [], ◌∷◌, Option, None, Some, slice_get, if◌then◌else◌}
+use Rattle.std.specs.Prelude.{◌≡◌, ◌<◌, ℕ, ◌+◌, false, List, [], ◌∷◌, length, Option, None, Some, slice_get, if◌then◌else◌}
 use Rattle.host_name.specs.Addresses.{Address, is_same_address}
 use Rattle.pool_book.specs.Pool.{is_closed}
 use Rattle.wired_trail.specs.Lines.{Lines, line_at}
@@ -7,10 +7,15 @@ use Rattle.wired_trail.specs.declared.lines.Line.{Line}
 use Rattle.wired_trail.specs.declared.stream_use.StreamUse.TheVariants as for_use
 use Rattle.desk_trail.specs.States.{ClientState, ServerState, number_of}
 
--- How many of the servers stand in the topology.
-abbrev pub standing : List ServerState → ℕ
-standing [] = 0
-standing (s ∷ ss) = if s.has_left then standing ss else standing ss + 1
+-- How many entries closing a server's pool takes, while the server stands in the topology: one of the pool, and one for each
+-- connection that is available (CMAP, Closing a Connection Pool).
+abbrev pub closing_of : ServerState → ℕ
+closing_of s = if s.has_left then 0 else length s.pool.state.available + 1
+
+-- How many closing the pools of all of these takes.
+abbrev pub closings : List ServerState → ℕ
+closings [] = 0
+closings (s ∷ ss) = closing_of s + closings ss
 
 -- The stream of a server's checks is in use for them, and is there while a check runs; between two checks all that was queued on
 -- it is sent.
@@ -19,14 +24,14 @@ HasStream lines x began None = began ≡ None
 HasStream lines x began (Some stream) =
     (line : Line) × (line_at lines stream ≡ Some line) × (line.is_for ≡ for_use.Check x) × (began ≡ None → line.wire.unsent ≡ [])
 
--- What is kept of each server, by its number: nothing must come next of its pool, in which no connection is available; its pool is
--- open while it stands in the topology; its generation is less than the entries of the trail; its checks have their stream, and
--- some time between two of them.
+-- What is kept of each server, by its number: nothing must come next of its pool, which is open while the server stands in the
+-- topology; its generation, and how many tickets entered it, are less than the entries of the trail; its checks have their stream,
+-- and some time between two of them.
 pub record IsKeptServer (lines : Lines) (entries x : ℕ) (s : ServerState) : Type 0 where
   pub paid : s.pool.owed ≡ []
-  pub none : s.pool.state.available ≡ []
   pub is_open : s.has_left ≡ false → is_closed s.pool.state.state ≡ false
   pub generation : s.pool.state.generation < entries
+  pub entered : s.pool.state.entered < entries
   pub checked : HasStream lines x s.checks.began s.check_stream
   pub paced : 0 < s.checks.beat
 

@@ -14,11 +14,11 @@ pub record Desk (N : Type 0) : Type 0 where
 abbrev pub now_of : (last given : ℕ) → ℕ
 now_of last given = max last (min given (2 ^ 62))
 
--- The same while a step is made, with the streams that are in use, and how many servers stand in the topology (own).
+-- The same while a step is made, with the streams that are in use, and how many entries closing the pools takes (own).
 pub record Core (N : Type 0) : Type 0 where
   pub net : N
   pub lines : Lines
   pub trail : Recorded
-  pub standing : ℕ
+  pub closings : ℕ
   pub last : ℕ
   pub is_stopped : Bool

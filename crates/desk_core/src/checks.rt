@@ -15,7 +15,7 @@ ghost use Rattle.topo_rules.specs.Laws.{listed_by};
 ghost use Rattle.wired_trail.specs.Lines.{line_at};
 ghost use Rattle.wired_trail.specs.declared.lines.Line.{Line};
 ghost use Rattle.wired_trail.specs.declared.stream_use.StreamUse.TheVariants as for_use;
-ghost use Rattle.desk_core.specs.Appends.{Appends};
+ghost use Rattle.desk_core.specs.Appends.{AppendsAside};
 ghost use Rattle.desk_core.specs.Follows.{IsToOffer};
 ghost use Rattle.desk_core.specs.Kept.{IsReady, IsWriting};
 ghost use Rattle.desk_core.specs.Rests.{HasBegun, HasEnded, KeepsChecks};
@@ -38,10 +38,10 @@ use topo_rules::TopoEvent;
 use wired_trail::StreamUse;
 
 /// Room for so many more entries, beside the closings of so many pools, and for so many requests.
-fn room_for(standing: usize, entries: usize, requests: usize) -> Result<Room, Memory>
-    ensures { IfOk result (λ room. room ≡ record { names = 0; events = 0; sessions = 0; requests = requests; steps = standing + entries }) }
+fn room_for(closings: usize, entries: usize, requests: usize) -> Result<Room, Memory>
+    ensures { IfOk result (λ room. room ≡ record { names = 0; events = 0; sessions = 0; requests = requests; steps = closings + entries }) }
 {
-    let steps = standing.checked_add(entries).ok_or(AllocError)?;
+    let steps = closings.checked_add(entries).ok_or(AllocError)?;
     Ok(Room {
         names: 0,
         events: 0,
@@ -123,7 +123,7 @@ impl<N: Net> Core<N> {
         ensures begins { OnOk result (IsAtRest self.new.trail.point.state moment host
             ⊎ HasBegun self.old.trail.point.state self.new.trail.point.state host) }
         ensures faults { N.faults self.old.net ≤ N.faults self.new.net }
-        ensures appends { Appends (Rose (N.faults self.old.net) (N.faults self.new.net)) moment self.old.trail self.new.trail }
+        ensures appends { AppendsAside (Rose (N.faults self.old.net) (N.faults self.new.net)) moment self.old.trail self.new.trail }
     {
         match self.servers[host as usize].check_stream() {
             Some(stream) => self.begin_on(alloc, moment, host, stream, false),
@@ -150,12 +150,12 @@ impl<N: Net> Core<N> {
         ensures ok { OnOk result (IsReady self.new moment) }
         ensures begins { OnOk result (HasBegun self.old.trail.point.state self.new.trail.point.state host) }
         ensures faults { N.faults self.old.net ≤ N.faults self.new.net }
-        ensures appends { Appends ⊥ moment self.old.trail self.new.trail }
+        ensures appends { AppendsAside ⊥ moment self.old.trail self.new.trail }
     {
         let place = self.wired.requests().len();
         let (request, bytes) = check_hello(alloc, host, stream, place, first)?;
         let id = request.id;
-        let room = room_for(self.standing, 2, 1)?;
+        let room = room_for(self.closings, 2, 1)?;
         self.wired.reserve(room)?;
         self.wired
             .append(moment, Entry::CheckBegan { host, stream });
@@ -172,7 +172,7 @@ impl<N: Net> Core<N> {
         ensures ok { OnOk result (IsReady self.new moment) }
         ensures rests { OnOk result (IsAtRest self.new.trail.point.state moment host) }
         ensures faults { N.faults self.old.net ≤ N.faults self.new.net }
-        ensures appends { Appends (Unit {0}) moment self.old.trail self.new.trail }
+        ensures appends { AppendsAside (Unit {0}) moment self.old.trail self.new.trail }
     {
         let end = broken(
             alloc,
@@ -180,7 +180,7 @@ impl<N: Net> Core<N> {
             CheckHow::NoDial,
             None,
         )?;
-        let room = room_for(self.standing, 1, 0)?;
+        let room = room_for(self.closings, 1, 0)?;
         self.wired.reserve(room)?;
         let known = is_known(&self.topology, self.servers[host as usize].host());
         self.wired
@@ -199,7 +199,7 @@ impl<N: Net> Core<N> {
         ensures servers { self.new.trail.point.state ≡ self.old.trail.point.state }
         ensures names { self.new.trail.lists.names ≡ self.old.trail.lists.names }
         ensures faults { N.faults self.old.net ≤ N.faults self.new.net }
-        ensures appends { Appends ⊥ moment self.old.trail self.new.trail }
+        ensures appends { AppendsAside ⊥ moment self.old.trail self.new.trail }
     {
         let Some(time) = time else {
             return;
@@ -228,7 +228,7 @@ impl<N: Net> Core<N> {
         ensures checks { OnOk result (KeepsChecks (offered_after moment event self.old.trail.point.state) self.new.trail.point.state) }
         ensures unknown { OnOk result ((host : Address) → event ≡ event_as.Broken host None → stands_known self.new.trail.point.state.topology host ≡ false) }
         ensures faults { N.faults self.old.net ≤ N.faults self.new.net }
-        ensures appends { Appends ⊥ moment self.old.trail self.new.trail }
+        ensures appends { AppendsAside ⊥ moment self.old.trail self.new.trail }
     {
         self.hear_time(moment, time);
         self.offer(alloc, moment, event)
@@ -248,9 +248,9 @@ impl<N: Net> Core<N> {
         ensures waits { IfOk result (λ r. IfSome r (λ until. IsAwaited self.new.trail.client self.new.trail.point.state moment host until)) }
         ensures ends { IfOk result (λ r. IfNone r (HasEnded self.old.trail.point.state self.new.trail.point.state moment host)) }
         ensures faults { N.faults self.old.net ≤ N.faults self.new.net }
-        ensures appends { Appends (Rose (N.faults self.old.net) (N.faults self.new.net)) moment self.old.trail self.new.trail }
+        ensures appends { AppendsAside (Rose (N.faults self.old.net) (N.faults self.new.net)) moment self.old.trail self.new.trail }
     {
-        let room = room_for(self.standing, 2, 0)?;
+        let room = room_for(self.closings, 2, 0)?;
         self.wired.reserve(room)?;
         let server = &self.servers[host as usize];
         let (Some(stream), Some(began)) = (server.check_stream(), server.began()) else {

@@ -5,24 +5,24 @@ ghost use Rattle.desk_trail.specs.Legal.{IsComplete, IsLegal, point_behind};
 ghost use Rattle.desk_trail.specs.States.{ServerState};
 ghost use Rattle.desk_trail.specs.Written.{lists_of};
 ghost use Rattle.legal_trail.specs.Recorded.{Recorded};
-ghost use Rattle.desk_core.specs.Appends.{Appends};
+ghost use Rattle.desk_core.specs.Appends.{AppendsAside};
 ghost use Rattle.desk_core.specs.Ending.{ArePoolsShut};
 ghost use Rattle.desk_core.specs.Kept.{IsReady};
-ghost use Rattle.desk_core.specs.Servers.{standing};
+ghost use Rattle.desk_core.specs.Servers.{closing_of, closings};
 
+use crate::shutting::shut_available;
 use crate::state::Core;
 use desk_trail::Entry;
 use net_link::Net;
 use server_state::Server;
 use wired_trail::{Finished, WiredTrail};
 
-/// Closes the pool of a server, where that stands in the topology.
+/// Closes the pool of a server, with the connections that are available in it, where the server stands in the topology.
 fn shut_pool<N: Net>(wired: &mut WiredTrail<N>, server: &Server, host: u32, moment: u64)
     requires there { slice_get wired.old.trail.point.state.servers host ≡ Some server.now }
     requires idle { server.now.pool.owed ≡ [] }
-    requires none { server.now.pool.state.available ≡ [] }
     requires is_open { server.now.has_left ≡ false → is_closed server.now.pool.state.state ≡ false }
-    requires room { standing (server.now ∷ []) ≤ wired.old.trail.room.steps }
+    requires room { closing_of server.now ≤ wired.old.trail.room.steps }
     requires paid { wired.old.trail.point.owed ≡ [] }
     requires moment { wired.old.trail.point.moment ≤ moment }
     ensures paid { wired.new.trail.point.owed ≡ [] }
@@ -30,28 +30,29 @@ fn shut_pool<N: Net>(wired: &mut WiredTrail<N>, server: &Server, host: u32, mome
     ensures others { (x : ℕ) → (x ≡ host → ⊥) → slice_get wired.new.trail.point.state.servers x ≡ slice_get wired.old.trail.point.state.servers x }
     ensures shut { (s : ServerState) → slice_get wired.new.trail.point.state.servers host ≡ Some s → s.has_left ≡ false
         → is_closed s.pool.state.state ≡ true }
-    ensures room { wired.old.trail.room.steps ≡ wired.new.trail.room.steps + standing (server.now ∷ []) }
-    ensures net { wired.new.net ≡ wired.old.net }
-    ensures appends { Appends ⊥ moment wired.old.trail wired.new.trail }
+    ensures room { wired.old.trail.room.steps ≡ wired.new.trail.room.steps + closing_of server.now }
+    ensures faults { N.faults wired.old.net ≤ N.faults wired.new.net }
+    ensures appends { AppendsAside ⊥ moment wired.old.trail wired.new.trail }
 {
     if !server.has_left() {
         wired.append(moment, Entry::PoolShut { host });
+        shut_available(wired, server, host, moment);
     }
 }
 
 /// Closes the pools of the servers that stand in the topology, in the order of their numbers.
 fn shut_pools<N: Net>(wired: &mut WiredTrail<N>, servers: &[Server], moment: u64)
     requires servers { wired.old.trail.point.state.servers ≡ servers.now }
-    requires idle { (x : ℕ) (s : ServerState) → slice_get servers.now x ≡ Some s → (s.pool.owed ≡ []) × (s.pool.state.available ≡ []) }
+    requires idle { (x : ℕ) (s : ServerState) → slice_get servers.now x ≡ Some s → s.pool.owed ≡ [] }
     requires is_open { (x : ℕ) (s : ServerState) → slice_get servers.now x ≡ Some s → s.has_left ≡ false → is_closed s.pool.state.state ≡ false }
     requires few { length servers.now ≤ 2 ^ 32 }
-    requires room { standing servers.now ≤ wired.old.trail.room.steps }
+    requires room { closings servers.now ≤ wired.old.trail.room.steps }
     requires paid { wired.old.trail.point.owed ≡ [] }
     requires moment { wired.old.trail.point.moment ≤ moment }
     ensures paid { wired.new.trail.point.owed ≡ [] }
     ensures shut { ArePoolsShut wired.new.trail.point.state }
-    ensures net { wired.new.net ≡ wired.old.net }
-    ensures appends { Appends ⊥ moment wired.old.trail wired.new.trail }
+    ensures faults { N.faults wired.old.net ≤ N.faults wired.new.net }
+    ensures appends { AppendsAside ⊥ moment wired.old.trail wired.new.trail }
 {
     let mut place: usize = 0;
     'shutting: while place < servers.len() {
@@ -68,7 +69,7 @@ impl<N: Net> Core<N> {
         ensures complete { self.is_stopped ≡ false → IsComplete self.trail.client (lists_of result.parts.trail) result.parts.trail.steps }
         ensures shut { self.is_stopped ≡ false
             → ArePoolsShut (point_behind self.trail.client (facts_of (lists_of result.parts.trail) result.parts.trail.steps)).state }
-        ensures grown { (new : Recorded) × Appends ⊥ moment self.trail new × (lists_of result.parts.trail ≡ new.lists) × (result.parts.trail.steps ≡ new.steps) }
+        ensures grown { (new : Recorded) × AppendsAside ⊥ moment self.trail new × (lists_of result.parts.trail ≡ new.lists) × (result.parts.trail.steps ≡ new.steps) }
         ensures settings { result.parts.settings ≡ self.trail.client.settings }
         ensures commands { result.parts.commands ≡ self.trail.client.commands }
         ensures faults { N.faults self.net ≤ N.faults result.net }

@@ -13,7 +13,8 @@
 //!
 //! Contracts see a desk as `Desk` of `specs/State.antt`: its net, its trail with the point to which that leads, the moment of
 //! its last step, and whether it stopped for want of memory. Read `State`, `Appends`, `Sights`, `Due` and `Ending`; what private
-//! functions keep among themselves stands in `Kept`, `Servers`, `Rests`, `Follows`, `Ends`, `Driven` and `Answered`.
+//! functions keep among themselves stands in `Kept`, `Servers`, `Moves`, `Shutting`, `Leaving`, `Rests`, `Follows`, `Ends`, `Driven` and
+//! `Answered`.
 //! Calls that allocate take an allocator.
 #![tactic(auto)]
 
@@ -30,6 +31,7 @@ mod naming;
 mod offers;
 mod opening;
 mod pools;
+mod shutting;
 mod sight;
 mod state;
 mod stepping;

@@ -3,7 +3,7 @@ ghost use Rattle.desk_trail.specs.Clients.{Client, beat, pool_rules};
 ghost use Rattle.desk_trail.specs.Owed.{Owed};
 ghost use Rattle.desk_trail.specs.Owed as owed;
 ghost use Rattle.desk_trail.specs.States.{fresh_server, number_from};
-ghost use Rattle.desk_core.specs.Appends.{Appends};
+ghost use Rattle.desk_core.specs.Appends.{AppendsAside};
 ghost use Rattle.desk_core.specs.Kept.{IsWriting};
 ghost use Rattle.desk_core.specs.Rests.{KeepsChecks};
 ghost use Rattle.desk_core.specs.Servers.{TouchesOnly};
@@ -16,7 +16,7 @@ use host_name::Host;
 use net_link::Net;
 use pool_book::PoolRules;
 use server_state::Server;
-use std::alloc::Global;
+use std::alloc::{AllocError, Global};
 
 /// Room for the name of a host.
 const A_NAME: Room = Room {
@@ -26,6 +26,13 @@ const A_NAME: Room = Room {
     requests: 0,
     steps: 1,
 };
+
+/// One more than a count; where there is none, as where memory is wanting.
+fn one_more(count: usize) -> Result<usize, Memory>
+    ensures { IfOk result (λ n. n ≡ count + 1) }
+{
+    count.checked_add(1).ok_or(AllocError)
+}
 
 /// The number of the first of the servers that stands in the topology with that address.
 pub fn number_from(servers: &[Server], host: &Host) -> Option<u32>
@@ -92,14 +99,15 @@ impl<N: Net> Core<N> {
         ensures names { OnOk result (self.new.trail.lists.names ≡ self.old.trail.lists.names ++ host.now ∷ []) }
         ensures net { self.new.net ≡ self.old.net }
         ensures lines { self.new.lines ≡ self.old.lines }
-        ensures appends { Appends ⊥ moment self.old.trail self.new.trail }
+        ensures appends { AppendsAside ⊥ moment self.old.trail self.new.trail }
     {
         let (name, server) = newcomer(alloc, self.wired.settings(), moment, host)?;
+        let closings = one_more(self.closings)?;
         self.wired.reserve(A_NAME)?;
         self.servers.reserve(1)?;
         self.wired.name(moment, name);
         self.servers.push_reserved(server);
-        self.standing += 1;
+        self.closings = closings;
         Ok(())
     }
 }

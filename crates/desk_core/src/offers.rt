@@ -12,7 +12,7 @@ ghost use Rattle.desk_trail.specs.Owed as owed;
 ghost use Rattle.desk_trail.specs.States.{ClientState};
 ghost use Rattle.desk_trail.specs.Topologies.{Says, asks_of, offered_after};
 ghost use Rattle.desk_core.specs.Answered.{added_by, removed_by};
-ghost use Rattle.desk_core.specs.Appends.{Appends};
+ghost use Rattle.desk_core.specs.Appends.{AppendsAside};
 ghost use Rattle.desk_core.specs.Follows.{AreApart, IsNone, IsToOffer, entries_for, owed_by};
 ghost use Rattle.desk_core.specs.Kept.{IsWriting};
 ghost use Rattle.desk_core.specs.Rests.{KeepsChecks};
@@ -29,10 +29,10 @@ use topo_rules::{Change, TopoEvent};
 
 /// Room for an event that was offered and for all that must follow it, beside the closings of so many pools. None where that
 /// is more than there can be.
-fn room_for(standing: usize, taken: &Taken) -> Option<Room>
+fn room_for(closings: usize, taken: &Taken) -> Option<Room>
     ensures names { IfSome result (λ room. room.names ≡ length (added_by taken.now)) }
     ensures events { IfSome result (λ room. room.events ≡ 1) }
-    ensures steps { IfSome result (λ room. room.steps ≡ standing + (3 + length (removed_by taken.now) + 2 * length (added_by taken.now))) }
+    ensures steps { IfSome result (λ room. room.steps ≡ closings + (3 + length (removed_by taken.now) + 2 * length (added_by taken.now))) }
 {
     let (added, removed) = match taken {
         Taken::Accepted(change) => (change.added.len(), change.removed.len()),
@@ -45,7 +45,7 @@ fn room_for(standing: usize, taken: &Taken) -> Option<Room>
         events: 1,
         sessions: 0,
         requests: 0,
-        steps: standing.checked_add(moved)?,
+        steps: closings.checked_add(moved)?,
     })
 }
 
@@ -78,7 +78,7 @@ impl<N: Net> Core<N> {
         ensures names { OnOk result (self.new.trail.lists.names ≡ self.old.trail.lists.names ++ hosts.now) }
         ensures net { self.new.net ≡ self.old.net }
         ensures lines { self.new.lines ≡ self.old.lines }
-        ensures appends { Appends ⊥ moment self.old.trail self.new.trail }
+        ensures appends { AppendsAside ⊥ moment self.old.trail self.new.trail }
     {
         for host in hosts {
             self.name(alloc, moment, host)?;
@@ -99,7 +99,7 @@ impl<N: Net> Core<N> {
         ensures checks { OnOk result (KeepsChecks self.old.trail.point.state self.new.trail.point.state) }
         ensures names { OnOk result (self.new.trail.lists.names ≡ self.old.trail.lists.names ++ change.now.added) }
         ensures faults { N.faults self.old.net ≤ N.faults self.new.net }
-        ensures appends { Appends ⊥ moment self.old.trail self.new.trail }
+        ensures appends { AppendsAside ⊥ moment self.old.trail self.new.trail }
     {
         self.name_all(alloc, moment, change.added.as_slice())?;
         self.drop_all(moment, change.removed.as_slice());
@@ -118,12 +118,12 @@ impl<N: Net> Core<N> {
         ensures unknown { OnOk result ((host : Address) → event ≡ event_as.Broken host None → stands_known self.new.trail.point.state.topology host ≡ false) }
         ensures names { OnOk result (length self.new.trail.lists.names ≤ length self.old.trail.lists.names + length (listed_by event)) }
         ensures faults { N.faults self.old.net ≤ N.faults self.new.net }
-        ensures appends { Appends ⊥ moment self.old.trail self.new.trail }
+        ensures appends { AppendsAside ⊥ moment self.old.trail self.new.trail }
     {
         let generation = self.generation_of(event.host());
         let copy = event.copy(alloc)?;
         let taken = self.topology.offer(alloc, copy, generation)?;
-        let Some(room) = room_for(self.standing, &taken) else {
+        let Some(room) = room_for(self.closings, &taken) else {
             self.stopped = true;
             return Err(AllocError);
         };

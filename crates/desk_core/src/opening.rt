@@ -2,7 +2,7 @@ ghost use Rattle.std.specs.Prelude.{◌≡◌, ◌≤◌, ◌^◌, [], false, le
 ghost use Rattle.topo_rules.specs.Rules.{opened};
 ghost use Rattle.desk_trail.specs.Legal.{beginning};
 ghost use Rattle.desk_trail.specs.Written.{no_lists};
-ghost use Rattle.desk_core.specs.Appends.{Appends};
+ghost use Rattle.desk_core.specs.Appends.{AppendsAside};
 ghost use Rattle.desk_core.specs.Kept.{IsReady};
 
 use crate::Memory;
@@ -52,14 +52,14 @@ impl<N: Net> Core<N> {
         ensures net { result.net ≡ wired.net }
         ensures last { result.last ≡ moment }
         ensures runs { result.is_stopped ≡ false }
-        ensures none { result.standing ≡ 0 }
+        ensures none { result.closings ≡ 0 }
     {
         Core {
             wired,
             topology: TopoBook::new(alloc, topology),
             servers: Vec::new(alloc),
             gossip: TimeGossip::new(),
-            standing: 0,
+            closings: 0,
             last: moment,
             stopped: false,
         }
@@ -73,10 +73,10 @@ impl<N: Net> Core<N> {
         requires last { self.old.last ≡ moment }
         requires lists { self.old.trail.lists ≡ no_lists }
         requires runs { self.old.is_stopped ≡ false }
-        requires none { self.old.standing ≡ 0 }
+        requires none { self.old.closings ≡ 0 }
         requires few { length seeds.now ≤ 16777216 }
         ensures ok { OnOk result (IsReady self.new moment) }
-        ensures appends { Appends ⊥ moment self.old.trail self.new.trail }
+        ensures appends { AppendsAside ⊥ moment self.old.trail self.new.trail }
         ensures net { self.new.net ≡ self.old.net }
         ensures lines { self.new.lines ≡ self.old.lines }
     {

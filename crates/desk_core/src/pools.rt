@@ -5,7 +5,7 @@ ghost use Rattle.desk_trail.specs.Owed.{Owed};
 ghost use Rattle.desk_trail.specs.Owed as owed;
 ghost use Rattle.desk_trail.specs.States.{ServerState, number_of};
 ghost use Rattle.desk_trail.specs.Topologies.{cleared, generation_for, generation_in, is_paused_at, readied, server_with};
-ghost use Rattle.desk_core.specs.Appends.{Appends};
+ghost use Rattle.desk_core.specs.Appends.{AppendsAside};
 ghost use Rattle.desk_core.specs.Kept.{IsWriting};
 ghost use Rattle.desk_core.specs.Rests.{KeepsChecks};
 
@@ -40,7 +40,7 @@ impl<N: Net> Core<N> {
         ensures checks { KeepsChecks self.old.trail.point.state self.new.trail.point.state }
         ensures names { self.new.trail.lists.names ≡ self.old.trail.lists.names }
         ensures faults { N.faults self.old.net ≤ N.faults self.new.net }
-        ensures appends { Appends ⊥ moment self.old.trail self.new.trail }
+        ensures appends { AppendsAside ⊥ moment self.old.trail self.new.trail }
     {
         self.wired.append(moment, Entry::PoolReady { host });
         let server = &mut self.servers[host as usize];
@@ -55,7 +55,7 @@ impl<N: Net> Core<N> {
         ensures checks { KeepsChecks self.old.trail.point.state self.new.trail.point.state }
         ensures names { self.new.trail.lists.names ≡ self.old.trail.lists.names }
         ensures faults { N.faults self.old.net ≤ N.faults self.new.net }
-        ensures appends { Appends ⊥ moment self.old.trail self.new.trail }
+        ensures appends { AppendsAside ⊥ moment self.old.trail self.new.trail }
     {
         few(self.wired.steps());
         self.wired.append(moment, Entry::PoolClear { host });
@@ -74,7 +74,7 @@ impl<N: Net> Core<N> {
         ensures checks { KeepsChecks self.old.trail.point.state self.new.trail.point.state }
         ensures names { self.new.trail.lists.names ≡ self.old.trail.lists.names }
         ensures faults { N.faults self.old.net ≤ N.faults self.new.net }
-        ensures appends { Appends ⊥ moment self.old.trail self.new.trail }
+        ensures appends { AppendsAside ⊥ moment self.old.trail self.new.trail }
     {
         if let Some(number) = self.number_of(host) {
             if self.servers[number as usize].is_paused() {
@@ -93,7 +93,7 @@ impl<N: Net> Core<N> {
         ensures checks { KeepsChecks self.old.trail.point.state self.new.trail.point.state }
         ensures names { self.new.trail.lists.names ≡ self.old.trail.lists.names }
         ensures faults { N.faults self.old.net ≤ N.faults self.new.net }
-        ensures appends { Appends ⊥ moment self.old.trail self.new.trail }
+        ensures appends { AppendsAside ⊥ moment self.old.trail self.new.trail }
     {
         if let Some(number) = self.number_of(host) {
             self.clear_pool(moment, number);
@@ -111,7 +111,7 @@ impl<N: Net> Core<N> {
         ensures checks { KeepsChecks self.old.trail.point.state self.new.trail.point.state }
         ensures names { self.new.trail.lists.names ≡ self.old.trail.lists.names }
         ensures faults { N.faults self.old.net ≤ N.faults self.new.net }
-        ensures appends { Appends ⊥ moment self.old.trail self.new.trail }
+        ensures appends { AppendsAside ⊥ moment self.old.trail self.new.trail }
     {
         if let Some(host) = host {
             self.ready_at(moment, host);
@@ -128,7 +128,7 @@ impl<N: Net> Core<N> {
         ensures checks { KeepsChecks self.old.trail.point.state self.new.trail.point.state }
         ensures names { self.new.trail.lists.names ≡ self.old.trail.lists.names }
         ensures faults { N.faults self.old.net ≤ N.faults self.new.net }
-        ensures appends { Appends ⊥ moment self.old.trail self.new.trail }
+        ensures appends { AppendsAside ⊥ moment self.old.trail self.new.trail }
     {
         if let Some(host) = host {
             self.clear_at(moment, host);

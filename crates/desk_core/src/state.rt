@@ -17,7 +17,7 @@ pub struct Core<N: Net> {
     pub topology: TopoBook,
     pub servers: Vec<Server>,
     pub gossip: TimeGossip,
-    pub standing: usize,
+    pub closings: usize,
     pub last: u64,
     pub stopped: bool,
 }
@@ -37,12 +37,12 @@ impl<N: Net> Model for Core<N> {
       net = d.wired.net;
       lines = d.wired.lines;
       trail = d.wired.trail;
-      standing = d.standing;
+      closings = d.closings;
       last = d.last;
       is_stopped = d.stopped;
     } };
 
-    ghost invariant = { λ d. IsKept d.wired.trail d.wired.lines d.topology.topology d.servers.items d.gossip d.standing d.last d.stopped };
+    ghost invariant = { λ d. IsKept d.wired.trail d.wired.lines d.topology.topology d.servers.items d.gossip d.closings d.last d.stopped };
 }
 
 impl<N: Net> Core<N> {

@@ -1,7 +1,7 @@
 ghost use Rattle.std.specs.Prelude.{◌≡◌, ◌≤◌, ◌^◌, ℕ, true, false, IfNone, IfOk, IfSome, OnOk};
 ghost use Rattle.net_link.specs.Causes.{Rose};
 ghost use Rattle.desk_trail.specs.Checks.{AtServer, IsDue, Runs};
-ghost use Rattle.desk_core.specs.Appends.{Appends};
+ghost use Rattle.desk_core.specs.Appends.{AppendsAside};
 ghost use Rattle.desk_core.specs.Kept.{IsReady};
 ghost use Rattle.desk_core.specs.Rests.{HasEnded};
 ghost use Rattle.desk_core.specs.Sights.{IsAwaited, MeansCheck};
@@ -67,7 +67,7 @@ impl<N: Net> Core<N> {
         ensures waits { IfOk result (λ r. IfSome r (λ until. IsAwaited self.new.trail.client self.new.trail.point.state moment host until)) }
         ensures ends { IfOk result (λ r. IfNone r (HasEnded self.old.trail.point.state self.new.trail.point.state moment host)) }
         ensures faults { N.faults self.old.net ≤ N.faults self.new.net }
-        ensures appends { Appends (Rose (N.faults self.old.net) (N.faults self.new.net)) moment self.old.trail self.new.trail }
+        ensures appends { AppendsAside (Rose (N.faults self.old.net) (N.faults self.new.net)) moment self.old.trail self.new.trail }
     {
         if self.is_due(moment, host) {
             self.begin_check(alloc, moment, host)?;
@@ -86,7 +86,7 @@ impl<N: Net> Core<N> {
         ensures ok { OnOk result (IsReady self.new moment) }
         ensures sight { IfOk result (MeansCheck self.new.trail.client self.new.trail.point.state moment host) }
         ensures faults { N.faults self.old.net ≤ N.faults self.new.net }
-        ensures appends { Appends (Rose (N.faults self.old.net) (N.faults self.new.net)) moment self.old.trail self.new.trail }
+        ensures appends { AppendsAside (Rose (N.faults self.old.net) (N.faults self.new.net)) moment self.old.trail self.new.trail }
     {
         if let Some(until) = self.check_once(alloc, moment, host)? {
             return Ok(Sight::Wait { until });

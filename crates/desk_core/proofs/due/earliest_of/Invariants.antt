@@ -1,4 +1,4 @@
-use Rattle.std.proofs.Common.{◌≡◌, ◌≤◌, ◌-◌, length}
+use Rattle.std.proofs.Common.{◌≤◌, ◌-◌, length}
 use Rattle.desk_core.proofs.DueLemmas.{IsFirstOf}
 use Rattle.desk_core.proofs.due.earliest_of.Given as goal
 

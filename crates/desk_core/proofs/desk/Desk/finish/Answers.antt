@@ -10,7 +10,7 @@ returns-clause-appends g c =
     rw (← c.self.view_is) (
       grown.0,
       subst (λ m. Appends ⊥ m c.self.inside.core.trail grown.0) c.tick-now.ensures.now
-          (subst (λ (t : Recorded). Appends ⊥ c.tick-now.result t grown.0) same grown.1),
+          (subst (λ (t : Recorded). Appends ⊥ c.tick-now.result t grown.0) same grown.1.appends),
       grown.2,
       grown.3,
     )

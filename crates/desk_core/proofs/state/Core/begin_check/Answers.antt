@@ -5,7 +5,6 @@ use Rattle.desk_trail.specs.States.{ClientState, ServerState}
 use Rattle.desk_wire.specs.State.{opened}
 use Rattle.wired_trail.specs.Lines.{line_at}
 use Rattle.wired_trail.specs.declared.stream_use.StreamUse.TheVariants as for_use
-use Rattle.legal_trail.specs.Recorded.{Recorded}
 use Rattle.desk_core.specs.Servers.{HasStream}
 use Rattle.desk_core.proofs.AppendsLemmas.{Appends-same}
 use Rattle.desk_core.proofs.DropLemmas.{read-there}
@@ -25,8 +24,7 @@ begin_on-requires-clause-line g c =
 pub returns-in_err-stream-in-None-clause-appends : goal.returns-in_err-stream-in-None-clause-appends
 returns-in_err-stream-in-None-clause-appends g c =
     let same : c.dial_check.new.self.trail ≡ c.args.self.now.trail = ap (λ d. d.trail) c.dial_check.ensures.same in
-    Appends-same c.args.moment c.args.self.now.trail c.dial_check.new.self.trail (ap (λ (t : Recorded). t.client) same) (ap (λ (t : Recorded). t.lists) same)
-    (ap (λ (t : Recorded). t.steps) same)
+    Appends-same c.args.moment c.args.self.now.trail c.dial_check.new.self.trail same
 
 pub begin_on-requires-in-Some-2-clause-due : goal.begin_on-requires-in-Some-2-clause-due
 begin_on-requires-in-Some-2-clause-due g c =

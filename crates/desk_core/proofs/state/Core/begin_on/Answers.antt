@@ -16,7 +16,7 @@ use Rattle.desk_trail.specs.Written.{IsAtLeast, a_request, an_entry}
 use Rattle.legal_trail.specs.Recorded.{Recorded}
 use Rattle.wired_trail.specs.Lines.{KeepsOthers, line_at, with_unsent}
 use Rattle.desk_core.specs.Rests.{HasBegun}
-use Rattle.desk_core.proofs.AppendsLemmas.{Appends-adds, Appends-room, Appends-trans, AreLonger-refl, AreLonger-requests}
+use Rattle.desk_core.proofs.AppendsLemmas.{Appends-adds, Appends-room, Appends-trans, AreLonger-refl, AreLonger-requests, kept-by_begin, kept-by_hello}
 use Rattle.desk_core.proofs.CheckLemmas.{Begins, IsBegun, IsBegun-by, IsKept-begun, StandsAt-began, StandsAt-hello}
 use Rattle.desk_core.proofs.DropLemmas.{read-there}
 use Rattle.desk_core.proofs.KeptLemmas.{IsKept-room}
@@ -25,7 +25,7 @@ use Rattle.desk_core.proofs.state.Core.begin_on.Goals as goal
 
 pub invariant_of-self : goal.invariant_of-self
 invariant_of-self g c =
-    IsKept-room c.self.inside.wired c.reserve.new.self c.self.inside.topology.topology c.self.inside.servers.items c.self.inside.gossip c.self.inside.standing c.self.inside.last c.self.inside.stopped
+    IsKept-room c.self.inside.wired c.reserve.new.self c.self.inside.topology.topology c.self.inside.servers.items c.self.inside.gossip c.self.inside.closings c.self.inside.last c.self.inside.stopped
     c.reserve.ensures.same c.reserve.ensures.kept c.self.invariant
 
 pub returns-in_err-reserve-clause-appends : goal.returns-in_err-reserve-clause-appends
@@ -52,7 +52,7 @@ append-requires-clause-stands g c =
 
 pub ask-requires-clause-room : goal.ask-requires-clause-room
 ask-requires-clause-room g c =
-    let more : IsAtLeast (record { names = 0; events = 0; sessions = 0; requests = 1; steps = c.self.inside.standing + 2 }) c.reserve.new.self.trail.room =
+    let more : IsAtLeast (record { names = 0; events = 0; sessions = 0; requests = 1; steps = c.self.inside.closings + 2 }) c.reserve.new.self.trail.room =
     subst (λ (m : Room). IsAtLeast m c.reserve.new.self.trail.room) c.in_ok-room.ensures c.in_ok-reserve.ensures.room in
     let u = (c.append.ensures.adds (fact.CheckBegan c.args.host c.args.stream) refl).room_used in
     let steps = more.steps in
@@ -122,7 +122,7 @@ invariant_of-self-2 g c =
     let r : Recorded = c.reserve.new.self.trail in
     let same = c.reserve.ensures.same in
     let kept =
-    IsKept-room c.self.inside.wired c.reserve.new.self c.self.inside.topology.topology c.self.inside.servers.items c.self.inside.gossip c.self.inside.standing c.self.inside.last c.self.inside.stopped
+    IsKept-room c.self.inside.wired c.reserve.new.self c.self.inside.topology.topology c.self.inside.servers.items c.self.inside.gossip c.self.inside.closings c.self.inside.last c.self.inside.stopped
     same c.reserve.ensures.kept c.self.invariant in
     let there : slice_get c.self.inside.servers.items c.args.host ≡ Some due.0 = ap (λ (s : ClientState). slice_get s.servers c.args.host) (sym h.state) ∙ due.1 in
     let is : c.index_mut-server.result.now ≡ due.0 =
@@ -147,13 +147,13 @@ invariant_of-self-2 g c =
       began = adds;
       asked = c.ask.ensures.adds;
     } in
-    let more : IsAtLeast (record { names = 0; events = 0; sessions = 0; requests = 1; steps = c.self.inside.standing + 2 }) r.room =
+    let more : IsAtLeast (record { names = 0; events = 0; sessions = 0; requests = 1; steps = c.self.inside.closings + 2 }) r.room =
     subst (λ (m : Room). IsAtLeast m r.room) c.in_ok-room.ensures c.in_ok-reserve.ensures.room in
     let steps = more.steps in
     let used_first = adds.room_used.steps in
     let used_then = c.ask.ensures.adds.room_used.steps in
     IsKept-begun r c.append.new.self.trail c.ask.new.self.trail c.reserve.new.self.lines c.ask.new.self.lines c.self.inside.topology.topology c.self.inside.servers.items c.self.inside.gossip
-    c.self.inside.standing c.self.inside.last c.args.moment c.args.host c.args.stream c.self.inside.stopped due.0 c.begin_check.new.self line.0 (with_unsent q.bytes line.0) both there
+    c.self.inside.closings c.self.inside.last c.args.moment c.args.host c.args.stream c.self.inside.stopped due.0 c.begin_check.new.self line.0 (with_unsent q.bytes line.0) both there
     due.2.0.stays line_there line.2 now_there line.2 others ready.now (omega arith) (c.begin_check.ensures.begins ∙ ap (check_begins c.args.moment c.args.stream) is) kept
 
 pub returns-clause-ok : goal.returns-clause-ok
@@ -183,9 +183,9 @@ returns-clause-appends g c =
     (Appends-trans c.args.moment old r new (Appends-room c.args.moment old r r.room (ap (λ s. s.trail) c.reserve.ensures.same))
     (Appends-trans c.args.moment r between new
     (Appends-adds an_entry r.lists c.args.moment (entry_of.CheckBegan c.args.host c.args.stream) (fact.CheckBegan c.args.host c.args.stream) r between (AreLonger-refl r.lists)
-    (c.append.ensures.adds (fact.CheckBegan c.args.host c.args.stream) refl) (λ e. absurd (cc)))
+    (c.append.ensures.adds (fact.CheckBegan c.args.host c.args.stream) refl) (λ e. absurd (cc)) (kept-by_begin r.client c.args.moment r.point.state c.args.host c.args.stream))
     (Appends-adds a_request _ c.args.moment (entry_of.Asked (length between.lists.requests)) (fact.Asked (length between.lists.requests) q) between new
-    (AreLonger-requests between.lists (q ∷ [])) c.ask.ensures.adds (λ e. absurd (cc)))))
+    (AreLonger-requests between.lists (q ∷ [])) c.ask.ensures.adds (λ e. absurd (cc)) (kept-by_hello between.client c.args.moment between.point.state (length between.lists.requests) c.args.host q c.in_ok-request.ensures.hello.is_for))))
 
 pub returns-clause-begins : goal.returns-clause-begins
 returns-clause-begins g c =
@@ -196,7 +196,7 @@ returns-clause-begins g c =
     let r : Recorded = c.reserve.new.self.trail in
     let same = c.reserve.ensures.same in
     let kept =
-    IsKept-room c.self.inside.wired c.reserve.new.self c.self.inside.topology.topology c.self.inside.servers.items c.self.inside.gossip c.self.inside.standing c.self.inside.last c.self.inside.stopped
+    IsKept-room c.self.inside.wired c.reserve.new.self c.self.inside.topology.topology c.self.inside.servers.items c.self.inside.gossip c.self.inside.closings c.self.inside.last c.self.inside.stopped
     same c.reserve.ensures.kept c.self.invariant in
     let there : slice_get c.self.inside.servers.items c.args.host ≡ Some due.0 = ap (λ (s : ClientState). slice_get s.servers c.args.host) (sym h.state) ∙ due.1 in
     let is : c.index_mut-server.result.now ≡ due.0 =
@@ -221,14 +221,14 @@ returns-clause-begins g c =
       began = adds;
       asked = c.ask.ensures.adds;
     } in
-    let more : IsAtLeast (record { names = 0; events = 0; sessions = 0; requests = 1; steps = c.self.inside.standing + 2 }) r.room =
+    let more : IsAtLeast (record { names = 0; events = 0; sessions = 0; requests = 1; steps = c.self.inside.closings + 2 }) r.room =
     subst (λ (m : Room). IsAtLeast m r.room) c.in_ok-room.ensures c.in_ok-reserve.ensures.room in
     let steps = more.steps in
     let used_first = adds.room_used.steps in
     let used_then = c.ask.ensures.adds.room_used.steps in
     let now =
     IsKept-begun r c.append.new.self.trail c.ask.new.self.trail c.reserve.new.self.lines c.ask.new.self.lines c.self.inside.topology.topology c.self.inside.servers.items c.self.inside.gossip
-    c.self.inside.standing c.self.inside.last c.args.moment c.args.host c.args.stream c.self.inside.stopped due.0 c.begin_check.new.self line.0 (with_unsent q.bytes line.0) both there
+    c.self.inside.closings c.self.inside.last c.args.moment c.args.host c.args.stream c.self.inside.stopped due.0 c.begin_check.new.self line.0 (with_unsent q.bytes line.0) both there
     due.2.0.stays line_there line.2 now_there line.2 others ready.now (omega arith) (c.begin_check.ensures.begins ∙ ap (check_begins c.args.moment c.args.stream) is) kept in
     let point : r.point ≡ c.self.inside.wired.trail.point = ap (λ s. s.trail.point) same in
     rw (← c.self.view_is)

@@ -1,15 +1,9 @@
-use Rattle.std.proofs.Common.{◌≡◌, ◌<◌, ◌+◌, ◌++◌, ◌∷◌, List, [], Some, true, false, length, refl, sym, ap, ◌∙◌, subst, arith}
-use Rattle.std.specs.Prelude.{slice_get}
-use Rattle.std.specs.Option.{option_and_then}
-use Rattle.std.proofs.lemmas.Option.{slice_get_read, slice_get_within}
-use Rattle.pool_book.specs.Pool.{is_paused}
+use Rattle.std.proofs.Common.{◌≡◌, ◌+◌, ◌++◌, List, Some, sym, ap, ◌∙◌, subst}
 use Rattle.desk_trail.specs.Owed.{Owed}
-use Rattle.desk_trail.specs.Owed as owed
 use Rattle.desk_trail.specs.States.{number_of}
-use Rattle.desk_trail.specs.Topologies.{cleared, generation_in, is_paused_at}
+use Rattle.desk_trail.specs.Topologies.{cleared}
 use Rattle.desk_core.specs.Kept.{IsWriting}
 use Rattle.desk_core.proofs.ServerLemmas.{number_of-found}
-use Rattle.desk_core.proofs.PoolLemmas.{IsWriting-less, at-servers, is_paused_at-there, readied-other, readied-paused}
 use Rattle.desk_core.proofs.state.Core.clear_at.Goals as goal
 
 pub clear_pool-requires-clause-writing : goal.clear_pool-requires-clause-writing

@@ -1,6 +1,5 @@
-use Rattle.std.proofs.Common.{◌+◌, ◌++◌, List, ap, arith}
+use Rattle.std.proofs.Common.{◌+◌, ◌++◌, ap, arith}
 use Rattle.std.specs.Option.{option_and_then}
-use Rattle.desk_trail.specs.Owed.{Owed}
 use Rattle.desk_trail.specs.States.{number_of}
 use Rattle.desk_trail.specs.Topologies.{cleared}
 use Rattle.desk_core.proofs.FollowLemmas.{IsWriting-same}

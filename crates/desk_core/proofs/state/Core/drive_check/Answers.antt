@@ -33,7 +33,7 @@ returns-in_err-room-clause-appends g c =
 
 pub invariant_of-self : goal.invariant_of-self
 invariant_of-self g c =
-    IsKept-room c.self.inside.wired c.reserve.new.self c.self.inside.topology.topology c.self.inside.servers.items c.self.inside.gossip c.self.inside.standing c.self.inside.last c.self.inside.stopped c.reserve.ensures.same c.reserve.ensures.kept c.self.invariant
+    IsKept-room c.self.inside.wired c.reserve.new.self c.self.inside.topology.topology c.self.inside.servers.items c.self.inside.gossip c.self.inside.closings c.self.inside.last c.self.inside.stopped c.reserve.ensures.same c.reserve.ensures.kept c.self.invariant
 
 pub returns-in_err-reserve-clause-appends : goal.returns-in_err-reserve-clause-appends
 returns-in_err-reserve-clause-appends g c =
@@ -47,10 +47,10 @@ index-server-requires g c =
     let r : Recorded = c.reserve.new.self.trail in
     let same = c.reserve.ensures.same in
     let point : r.point ≡ c.self.inside.wired.trail.point = ap (λ s. s.trail.point) same in
-    let kept : IsKept r c.reserve.new.self.lines c.self.inside.topology.topology c.self.inside.servers.items c.self.inside.gossip c.self.inside.standing c.self.inside.last c.self.inside.stopped =
-    IsKept-room c.self.inside.wired c.reserve.new.self c.self.inside.topology.topology c.self.inside.servers.items c.self.inside.gossip c.self.inside.standing c.self.inside.last c.self.inside.stopped same c.reserve.ensures.kept c.self.invariant in
+    let kept : IsKept r c.reserve.new.self.lines c.self.inside.topology.topology c.self.inside.servers.items c.self.inside.gossip c.self.inside.closings c.self.inside.last c.self.inside.stopped =
+    IsKept-room c.self.inside.wired c.reserve.new.self c.self.inside.topology.topology c.self.inside.servers.items c.self.inside.gossip c.self.inside.closings c.self.inside.last c.self.inside.stopped same c.reserve.ensures.kept c.self.invariant in
     let running : IsRunning r c.reserve.new.self.lines c.self.inside.servers.items c.args.host =
-    IsRunning-of r c.reserve.new.self.lines c.self.inside.topology.topology c.self.inside.servers.items c.self.inside.gossip c.self.inside.standing c.self.inside.last c.self.inside.stopped c.args.host kept ready.runs
+    IsRunning-of r c.reserve.new.self.lines c.self.inside.topology.topology c.self.inside.servers.items c.self.inside.gossip c.self.inside.closings c.self.inside.last c.self.inside.stopped c.args.host kept ready.runs
     (subst (λ (p : Point). AtServer p.state c.args.host (λ s. (began : ℕ) × Runs began s)) (sym point) runs) in
     let within = slice_get_within c.self.inside.servers.items c.args.host running.server running.there in
     omega (arith, c.self.inside.servers.ok)
@@ -62,10 +62,10 @@ began-requires g c =
     let r : Recorded = c.reserve.new.self.trail in
     let same = c.reserve.ensures.same in
     let point : r.point ≡ c.self.inside.wired.trail.point = ap (λ s. s.trail.point) same in
-    let kept : IsKept r c.reserve.new.self.lines c.self.inside.topology.topology c.self.inside.servers.items c.self.inside.gossip c.self.inside.standing c.self.inside.last c.self.inside.stopped =
-    IsKept-room c.self.inside.wired c.reserve.new.self c.self.inside.topology.topology c.self.inside.servers.items c.self.inside.gossip c.self.inside.standing c.self.inside.last c.self.inside.stopped same c.reserve.ensures.kept c.self.invariant in
+    let kept : IsKept r c.reserve.new.self.lines c.self.inside.topology.topology c.self.inside.servers.items c.self.inside.gossip c.self.inside.closings c.self.inside.last c.self.inside.stopped =
+    IsKept-room c.self.inside.wired c.reserve.new.self c.self.inside.topology.topology c.self.inside.servers.items c.self.inside.gossip c.self.inside.closings c.self.inside.last c.self.inside.stopped same c.reserve.ensures.kept c.self.invariant in
     let running : IsRunning r c.reserve.new.self.lines c.self.inside.servers.items c.args.host =
-    IsRunning-of r c.reserve.new.self.lines c.self.inside.topology.topology c.self.inside.servers.items c.self.inside.gossip c.self.inside.standing c.self.inside.last c.self.inside.stopped c.args.host kept ready.runs
+    IsRunning-of r c.reserve.new.self.lines c.self.inside.topology.topology c.self.inside.servers.items c.self.inside.gossip c.self.inside.closings c.self.inside.last c.self.inside.stopped c.args.host kept ready.runs
     (subst (λ (p : Point). AtServer p.state c.args.host (λ s. (began : ℕ) × Runs began s)) (sym point) runs) in
     let is : c.index-server.result.now ≡ running.server =
     read-there c.self.inside.servers.items c.args.host running.server c.index-server.result.now running.there c.index-server.ensures in
@@ -78,10 +78,10 @@ unreachable-requires g c =
     let r : Recorded = c.reserve.new.self.trail in
     let same = c.reserve.ensures.same in
     let point : r.point ≡ c.self.inside.wired.trail.point = ap (λ s. s.trail.point) same in
-    let kept : IsKept r c.reserve.new.self.lines c.self.inside.topology.topology c.self.inside.servers.items c.self.inside.gossip c.self.inside.standing c.self.inside.last c.self.inside.stopped =
-    IsKept-room c.self.inside.wired c.reserve.new.self c.self.inside.topology.topology c.self.inside.servers.items c.self.inside.gossip c.self.inside.standing c.self.inside.last c.self.inside.stopped same c.reserve.ensures.kept c.self.invariant in
+    let kept : IsKept r c.reserve.new.self.lines c.self.inside.topology.topology c.self.inside.servers.items c.self.inside.gossip c.self.inside.closings c.self.inside.last c.self.inside.stopped =
+    IsKept-room c.self.inside.wired c.reserve.new.self c.self.inside.topology.topology c.self.inside.servers.items c.self.inside.gossip c.self.inside.closings c.self.inside.last c.self.inside.stopped same c.reserve.ensures.kept c.self.invariant in
     let running : IsRunning r c.reserve.new.self.lines c.self.inside.servers.items c.args.host =
-    IsRunning-of r c.reserve.new.self.lines c.self.inside.topology.topology c.self.inside.servers.items c.self.inside.gossip c.self.inside.standing c.self.inside.last c.self.inside.stopped c.args.host kept ready.runs
+    IsRunning-of r c.reserve.new.self.lines c.self.inside.topology.topology c.self.inside.servers.items c.self.inside.gossip c.self.inside.closings c.self.inside.last c.self.inside.stopped c.args.host kept ready.runs
     (subst (λ (p : Point). AtServer p.state c.args.host (λ s. (began : ℕ) × Runs began s)) (sym point) runs) in
     let is : c.index-server.result.now ≡ running.server =
     read-there c.self.inside.servers.items c.args.host running.server c.index-server.result.now running.there c.index-server.ensures in
@@ -99,10 +99,10 @@ drive-requires-clause-there g c =
     let r : Recorded = c.reserve.new.self.trail in
     let same = c.reserve.ensures.same in
     let point : r.point ≡ c.self.inside.wired.trail.point = ap (λ s. s.trail.point) same in
-    let kept : IsKept r c.reserve.new.self.lines c.self.inside.topology.topology c.self.inside.servers.items c.self.inside.gossip c.self.inside.standing c.self.inside.last c.self.inside.stopped =
-    IsKept-room c.self.inside.wired c.reserve.new.self c.self.inside.topology.topology c.self.inside.servers.items c.self.inside.gossip c.self.inside.standing c.self.inside.last c.self.inside.stopped same c.reserve.ensures.kept c.self.invariant in
+    let kept : IsKept r c.reserve.new.self.lines c.self.inside.topology.topology c.self.inside.servers.items c.self.inside.gossip c.self.inside.closings c.self.inside.last c.self.inside.stopped =
+    IsKept-room c.self.inside.wired c.reserve.new.self c.self.inside.topology.topology c.self.inside.servers.items c.self.inside.gossip c.self.inside.closings c.self.inside.last c.self.inside.stopped same c.reserve.ensures.kept c.self.invariant in
     let running : IsRunning r c.reserve.new.self.lines c.self.inside.servers.items c.args.host =
-    IsRunning-of r c.reserve.new.self.lines c.self.inside.topology.topology c.self.inside.servers.items c.self.inside.gossip c.self.inside.standing c.self.inside.last c.self.inside.stopped c.args.host kept ready.runs
+    IsRunning-of r c.reserve.new.self.lines c.self.inside.topology.topology c.self.inside.servers.items c.self.inside.gossip c.self.inside.closings c.self.inside.last c.self.inside.stopped c.args.host kept ready.runs
     (subst (λ (p : Point). AtServer p.state c.args.host (λ s. (began : ℕ) × Runs began s)) (sym point) runs) in
     let d : IsDriven r c.reserve.new.self.lines c.self.inside.servers.items c.args.host c.in-Some-Some.stream c.in-Some-Some.began =
     IsDriven-of r c.reserve.new.self.lines c.self.inside.servers.items c.args.host c.in-Some-Some.stream c.in-Some-Some.began c.index-server.result.now running c.index-server.ensures
@@ -116,15 +116,15 @@ invariant_of-self-in-Ok-None g c =
     let r : Recorded = c.reserve.new.self.trail in
     let same = c.reserve.ensures.same in
     let point : r.point ≡ c.self.inside.wired.trail.point = ap (λ s. s.trail.point) same in
-    let kept : IsKept r c.reserve.new.self.lines c.self.inside.topology.topology c.self.inside.servers.items c.self.inside.gossip c.self.inside.standing c.self.inside.last c.self.inside.stopped =
-    IsKept-room c.self.inside.wired c.reserve.new.self c.self.inside.topology.topology c.self.inside.servers.items c.self.inside.gossip c.self.inside.standing c.self.inside.last c.self.inside.stopped same c.reserve.ensures.kept c.self.invariant in
+    let kept : IsKept r c.reserve.new.self.lines c.self.inside.topology.topology c.self.inside.servers.items c.self.inside.gossip c.self.inside.closings c.self.inside.last c.self.inside.stopped =
+    IsKept-room c.self.inside.wired c.reserve.new.self c.self.inside.topology.topology c.self.inside.servers.items c.self.inside.gossip c.self.inside.closings c.self.inside.last c.self.inside.stopped same c.reserve.ensures.kept c.self.invariant in
     let running : IsRunning r c.reserve.new.self.lines c.self.inside.servers.items c.args.host =
-    IsRunning-of r c.reserve.new.self.lines c.self.inside.topology.topology c.self.inside.servers.items c.self.inside.gossip c.self.inside.standing c.self.inside.last c.self.inside.stopped c.args.host kept ready.runs
+    IsRunning-of r c.reserve.new.self.lines c.self.inside.topology.topology c.self.inside.servers.items c.self.inside.gossip c.self.inside.closings c.self.inside.last c.self.inside.stopped c.args.host kept ready.runs
     (subst (λ (p : Point). AtServer p.state c.args.host (λ s. (began : ℕ) × Runs began s)) (sym point) runs) in
     let d : IsDriven r c.reserve.new.self.lines c.self.inside.servers.items c.args.host c.in-Some-Some.stream c.in-Some-Some.began =
     IsDriven-of r c.reserve.new.self.lines c.self.inside.servers.items c.args.host c.in-Some-Some.stream c.in-Some-Some.began c.index-server.result.now running c.index-server.ensures
     (sym c.check_stream.ensures.stream ∙ c.in-Some-Some.is-0) (sym c.began.ensures.value ∙ c.in-Some-Some.is-1) in
-    IsKept-still r c.drive.new.wired.trail c.reserve.new.self.lines c.drive.new.wired.lines c.self.inside.topology.topology c.self.inside.servers.items c.self.inside.gossip c.self.inside.standing c.self.inside.last c.args.host c.in-Some-Some.stream c.in-Some-Some.began c.self.inside.stopped d c.drive.ensures.trail c.drive.ensures.others (rw c.in-Ok-None.field-0-is at c.in-Ok-None.ensures.waits) kept
+    IsKept-still r c.drive.new.wired.trail c.reserve.new.self.lines c.drive.new.wired.lines c.self.inside.topology.topology c.self.inside.servers.items c.self.inside.gossip c.self.inside.closings c.self.inside.last c.args.host c.in-Some-Some.stream c.in-Some-Some.began c.self.inside.stopped d c.drive.ensures.trail c.drive.ensures.others (rw c.in-Ok-None.field-0-is at c.in-Ok-None.ensures.waits) kept
 
 pub index-requires : goal.index-requires
 index-requires g c =
@@ -133,10 +133,10 @@ index-requires g c =
     let r : Recorded = c.reserve.new.self.trail in
     let same = c.reserve.ensures.same in
     let point : r.point ≡ c.self.inside.wired.trail.point = ap (λ s. s.trail.point) same in
-    let kept : IsKept r c.reserve.new.self.lines c.self.inside.topology.topology c.self.inside.servers.items c.self.inside.gossip c.self.inside.standing c.self.inside.last c.self.inside.stopped =
-    IsKept-room c.self.inside.wired c.reserve.new.self c.self.inside.topology.topology c.self.inside.servers.items c.self.inside.gossip c.self.inside.standing c.self.inside.last c.self.inside.stopped same c.reserve.ensures.kept c.self.invariant in
+    let kept : IsKept r c.reserve.new.self.lines c.self.inside.topology.topology c.self.inside.servers.items c.self.inside.gossip c.self.inside.closings c.self.inside.last c.self.inside.stopped =
+    IsKept-room c.self.inside.wired c.reserve.new.self c.self.inside.topology.topology c.self.inside.servers.items c.self.inside.gossip c.self.inside.closings c.self.inside.last c.self.inside.stopped same c.reserve.ensures.kept c.self.invariant in
     let running : IsRunning r c.reserve.new.self.lines c.self.inside.servers.items c.args.host =
-    IsRunning-of r c.reserve.new.self.lines c.self.inside.topology.topology c.self.inside.servers.items c.self.inside.gossip c.self.inside.standing c.self.inside.last c.self.inside.stopped c.args.host kept ready.runs
+    IsRunning-of r c.reserve.new.self.lines c.self.inside.topology.topology c.self.inside.servers.items c.self.inside.gossip c.self.inside.closings c.self.inside.last c.self.inside.stopped c.args.host kept ready.runs
     (subst (λ (p : Point). AtServer p.state c.args.host (λ s. (began : ℕ) × Runs began s)) (sym point) runs) in
     let within = slice_get_within c.self.inside.servers.items c.args.host running.server running.there in
     omega (arith, c.self.inside.servers.ok)
@@ -148,10 +148,10 @@ append-requires-clause-stands g c =
     let r : Recorded = c.reserve.new.self.trail in
     let same = c.reserve.ensures.same in
     let point : r.point ≡ c.self.inside.wired.trail.point = ap (λ s. s.trail.point) same in
-    let kept : IsKept r c.reserve.new.self.lines c.self.inside.topology.topology c.self.inside.servers.items c.self.inside.gossip c.self.inside.standing c.self.inside.last c.self.inside.stopped =
-    IsKept-room c.self.inside.wired c.reserve.new.self c.self.inside.topology.topology c.self.inside.servers.items c.self.inside.gossip c.self.inside.standing c.self.inside.last c.self.inside.stopped same c.reserve.ensures.kept c.self.invariant in
+    let kept : IsKept r c.reserve.new.self.lines c.self.inside.topology.topology c.self.inside.servers.items c.self.inside.gossip c.self.inside.closings c.self.inside.last c.self.inside.stopped =
+    IsKept-room c.self.inside.wired c.reserve.new.self c.self.inside.topology.topology c.self.inside.servers.items c.self.inside.gossip c.self.inside.closings c.self.inside.last c.self.inside.stopped same c.reserve.ensures.kept c.self.invariant in
     let running : IsRunning r c.reserve.new.self.lines c.self.inside.servers.items c.args.host =
-    IsRunning-of r c.reserve.new.self.lines c.self.inside.topology.topology c.self.inside.servers.items c.self.inside.gossip c.self.inside.standing c.self.inside.last c.self.inside.stopped c.args.host kept ready.runs
+    IsRunning-of r c.reserve.new.self.lines c.self.inside.topology.topology c.self.inside.servers.items c.self.inside.gossip c.self.inside.closings c.self.inside.last c.self.inside.stopped c.args.host kept ready.runs
     (subst (λ (p : Point). AtServer p.state c.args.host (λ s. (began : ℕ) × Runs began s)) (sym point) runs) in
     let d : IsDriven r c.reserve.new.self.lines c.self.inside.servers.items c.args.host c.in-Some-Some.stream c.in-Some-Some.began =
     IsDriven-of r c.reserve.new.self.lines c.self.inside.servers.items c.args.host c.in-Some-Some.stream c.in-Some-Some.began c.index-server.result.now running c.index-server.ensures
@@ -175,10 +175,10 @@ index_mut-server-requires g c =
     let r : Recorded = c.reserve.new.self.trail in
     let same = c.reserve.ensures.same in
     let point : r.point ≡ c.self.inside.wired.trail.point = ap (λ s. s.trail.point) same in
-    let kept : IsKept r c.reserve.new.self.lines c.self.inside.topology.topology c.self.inside.servers.items c.self.inside.gossip c.self.inside.standing c.self.inside.last c.self.inside.stopped =
-    IsKept-room c.self.inside.wired c.reserve.new.self c.self.inside.topology.topology c.self.inside.servers.items c.self.inside.gossip c.self.inside.standing c.self.inside.last c.self.inside.stopped same c.reserve.ensures.kept c.self.invariant in
+    let kept : IsKept r c.reserve.new.self.lines c.self.inside.topology.topology c.self.inside.servers.items c.self.inside.gossip c.self.inside.closings c.self.inside.last c.self.inside.stopped =
+    IsKept-room c.self.inside.wired c.reserve.new.self c.self.inside.topology.topology c.self.inside.servers.items c.self.inside.gossip c.self.inside.closings c.self.inside.last c.self.inside.stopped same c.reserve.ensures.kept c.self.invariant in
     let running : IsRunning r c.reserve.new.self.lines c.self.inside.servers.items c.args.host =
-    IsRunning-of r c.reserve.new.self.lines c.self.inside.topology.topology c.self.inside.servers.items c.self.inside.gossip c.self.inside.standing c.self.inside.last c.self.inside.stopped c.args.host kept ready.runs
+    IsRunning-of r c.reserve.new.self.lines c.self.inside.topology.topology c.self.inside.servers.items c.self.inside.gossip c.self.inside.closings c.self.inside.last c.self.inside.stopped c.args.host kept ready.runs
     (subst (λ (p : Point). AtServer p.state c.args.host (λ s. (began : ℕ) × Runs began s)) (sym point) runs) in
     let within = slice_get_within c.self.inside.servers.items c.args.host running.server running.there in
     omega (arith, c.self.inside.servers.ok)
@@ -190,10 +190,10 @@ end_check-requires-clause-stays g c =
     let r : Recorded = c.reserve.new.self.trail in
     let same = c.reserve.ensures.same in
     let point : r.point ≡ c.self.inside.wired.trail.point = ap (λ s. s.trail.point) same in
-    let kept : IsKept r c.reserve.new.self.lines c.self.inside.topology.topology c.self.inside.servers.items c.self.inside.gossip c.self.inside.standing c.self.inside.last c.self.inside.stopped =
-    IsKept-room c.self.inside.wired c.reserve.new.self c.self.inside.topology.topology c.self.inside.servers.items c.self.inside.gossip c.self.inside.standing c.self.inside.last c.self.inside.stopped same c.reserve.ensures.kept c.self.invariant in
+    let kept : IsKept r c.reserve.new.self.lines c.self.inside.topology.topology c.self.inside.servers.items c.self.inside.gossip c.self.inside.closings c.self.inside.last c.self.inside.stopped =
+    IsKept-room c.self.inside.wired c.reserve.new.self c.self.inside.topology.topology c.self.inside.servers.items c.self.inside.gossip c.self.inside.closings c.self.inside.last c.self.inside.stopped same c.reserve.ensures.kept c.self.invariant in
     let running : IsRunning r c.reserve.new.self.lines c.self.inside.servers.items c.args.host =
-    IsRunning-of r c.reserve.new.self.lines c.self.inside.topology.topology c.self.inside.servers.items c.self.inside.gossip c.self.inside.standing c.self.inside.last c.self.inside.stopped c.args.host kept ready.runs
+    IsRunning-of r c.reserve.new.self.lines c.self.inside.topology.topology c.self.inside.servers.items c.self.inside.gossip c.self.inside.closings c.self.inside.last c.self.inside.stopped c.args.host kept ready.runs
     (subst (λ (p : Point). AtServer p.state c.args.host (λ s. (began : ℕ) × Runs began s)) (sym point) runs) in
     let d : IsDriven r c.reserve.new.self.lines c.self.inside.servers.items c.args.host c.in-Some-Some.stream c.in-Some-Some.began =
     IsDriven-of r c.reserve.new.self.lines c.self.inside.servers.items c.args.host c.in-Some-Some.stream c.in-Some-Some.began c.index-server.result.now running c.index-server.ensures
@@ -209,10 +209,10 @@ end_check-requires-clause-running g c =
     let r : Recorded = c.reserve.new.self.trail in
     let same = c.reserve.ensures.same in
     let point : r.point ≡ c.self.inside.wired.trail.point = ap (λ s. s.trail.point) same in
-    let kept : IsKept r c.reserve.new.self.lines c.self.inside.topology.topology c.self.inside.servers.items c.self.inside.gossip c.self.inside.standing c.self.inside.last c.self.inside.stopped =
-    IsKept-room c.self.inside.wired c.reserve.new.self c.self.inside.topology.topology c.self.inside.servers.items c.self.inside.gossip c.self.inside.standing c.self.inside.last c.self.inside.stopped same c.reserve.ensures.kept c.self.invariant in
+    let kept : IsKept r c.reserve.new.self.lines c.self.inside.topology.topology c.self.inside.servers.items c.self.inside.gossip c.self.inside.closings c.self.inside.last c.self.inside.stopped =
+    IsKept-room c.self.inside.wired c.reserve.new.self c.self.inside.topology.topology c.self.inside.servers.items c.self.inside.gossip c.self.inside.closings c.self.inside.last c.self.inside.stopped same c.reserve.ensures.kept c.self.invariant in
     let running : IsRunning r c.reserve.new.self.lines c.self.inside.servers.items c.args.host =
-    IsRunning-of r c.reserve.new.self.lines c.self.inside.topology.topology c.self.inside.servers.items c.self.inside.gossip c.self.inside.standing c.self.inside.last c.self.inside.stopped c.args.host kept ready.runs
+    IsRunning-of r c.reserve.new.self.lines c.self.inside.topology.topology c.self.inside.servers.items c.self.inside.gossip c.self.inside.closings c.self.inside.last c.self.inside.stopped c.args.host kept ready.runs
     (subst (λ (p : Point). AtServer p.state c.args.host (λ s. (began : ℕ) × Runs began s)) (sym point) runs) in
     let d : IsDriven r c.reserve.new.self.lines c.self.inside.servers.items c.args.host c.in-Some-Some.stream c.in-Some-Some.began =
     IsDriven-of r c.reserve.new.self.lines c.self.inside.servers.items c.args.host c.in-Some-Some.stream c.in-Some-Some.began c.index-server.result.now running c.index-server.ensures
@@ -228,17 +228,17 @@ invariant_of-self-in-Ok-Some g c =
     let r : Recorded = c.reserve.new.self.trail in
     let same = c.reserve.ensures.same in
     let point : r.point ≡ c.self.inside.wired.trail.point = ap (λ s. s.trail.point) same in
-    let kept : IsKept r c.reserve.new.self.lines c.self.inside.topology.topology c.self.inside.servers.items c.self.inside.gossip c.self.inside.standing c.self.inside.last c.self.inside.stopped =
-    IsKept-room c.self.inside.wired c.reserve.new.self c.self.inside.topology.topology c.self.inside.servers.items c.self.inside.gossip c.self.inside.standing c.self.inside.last c.self.inside.stopped same c.reserve.ensures.kept c.self.invariant in
+    let kept : IsKept r c.reserve.new.self.lines c.self.inside.topology.topology c.self.inside.servers.items c.self.inside.gossip c.self.inside.closings c.self.inside.last c.self.inside.stopped =
+    IsKept-room c.self.inside.wired c.reserve.new.self c.self.inside.topology.topology c.self.inside.servers.items c.self.inside.gossip c.self.inside.closings c.self.inside.last c.self.inside.stopped same c.reserve.ensures.kept c.self.invariant in
     let running : IsRunning r c.reserve.new.self.lines c.self.inside.servers.items c.args.host =
-    IsRunning-of r c.reserve.new.self.lines c.self.inside.topology.topology c.self.inside.servers.items c.self.inside.gossip c.self.inside.standing c.self.inside.last c.self.inside.stopped c.args.host kept ready.runs
+    IsRunning-of r c.reserve.new.self.lines c.self.inside.topology.topology c.self.inside.servers.items c.self.inside.gossip c.self.inside.closings c.self.inside.last c.self.inside.stopped c.args.host kept ready.runs
     (subst (λ (p : Point). AtServer p.state c.args.host (λ s. (began : ℕ) × Runs began s)) (sym point) runs) in
     let d : IsDriven r c.reserve.new.self.lines c.self.inside.servers.items c.args.host c.in-Some-Some.stream c.in-Some-Some.began =
     IsDriven-of r c.reserve.new.self.lines c.self.inside.servers.items c.args.host c.in-Some-Some.stream c.in-Some-Some.began c.index-server.result.now running c.index-server.ensures
     (sym c.check_stream.ensures.stream ∙ c.in-Some-Some.is-0) (sym c.began.ensures.value ∙ c.in-Some-Some.is-1) in
     let ends = rw c.in-Ok-Some.field-0-is at c.in-Ok-Some.ensures.ends in
     let adds = c.append.ensures.adds (fact.CheckEnded c.args.host c.in-Ok-Some.end.how) refl in
-    let more : IsAtLeast (record { names = 0; events = 0; sessions = 0; requests = 0; steps = c.self.inside.standing + 2 }) r.room =
+    let more : IsAtLeast (record { names = 0; events = 0; sessions = 0; requests = 0; steps = c.self.inside.closings + 2 }) r.room =
     subst (λ (m : Room). IsAtLeast m r.room) c.in_ok-room.ensures c.in_ok-reserve.ensures.room in
     let steps = more.steps in
     let used = adds.room_used.steps in
@@ -254,9 +254,9 @@ invariant_of-self-in-Ok-Some g c =
     (EndsOn-by c.reserve.new.self.lines c.drive.new.wired.lines c.args.host c.in-Some-Some.stream c.in-Ok-Some.end.how d.server.check_stream d.line d.has d.line_there d.is_for (rw c.in-Ok-Some.field-0-is at c.in-Ok-Some.ensures.kept)) in
     let only : OnlyAt c.args.host c.reserve.new.self.lines c.append.new.self.lines =
     others_same c.in-Some-Some.stream d.line d.line_there d.is_for (λ other n. ap (λ l. line_at l other) lines ∙ c.drive.ensures.others other n) in
-    let kept_2 : IsKept c.drive.new.wired.trail c.reserve.new.self.lines c.self.inside.topology.topology c.self.inside.servers.items c.self.inside.gossip c.self.inside.standing c.self.inside.last c.self.inside.stopped =
-    subst (λ (x : Recorded). IsKept x c.reserve.new.self.lines c.self.inside.topology.topology c.self.inside.servers.items c.self.inside.gossip c.self.inside.standing c.self.inside.last c.self.inside.stopped) (sym c.drive.ensures.trail) kept in
-    IsKept-ended c.drive.new.wired.trail c.append.new.self.trail c.reserve.new.self.lines c.append.new.self.lines c.self.inside.topology.topology c.self.inside.servers.items c.self.inside.gossip c.self.inside.standing c.self.inside.last c.args.moment c.args.host c.self.inside.stopped c.in-Ok-Some.end.how c.is_known-known.result d.server c.end_check.new.self
+    let kept_2 : IsKept c.drive.new.wired.trail c.reserve.new.self.lines c.self.inside.topology.topology c.self.inside.servers.items c.self.inside.gossip c.self.inside.closings c.self.inside.last c.self.inside.stopped =
+    subst (λ (x : Recorded). IsKept x c.reserve.new.self.lines c.self.inside.topology.topology c.self.inside.servers.items c.self.inside.gossip c.self.inside.closings c.self.inside.last c.self.inside.stopped) (sym c.drive.ensures.trail) kept in
+    IsKept-ended c.drive.new.wired.trail c.append.new.self.trail c.reserve.new.self.lines c.append.new.self.lines c.self.inside.topology.topology c.self.inside.servers.items c.self.inside.gossip c.self.inside.closings c.self.inside.last c.args.moment c.args.host c.self.inside.stopped c.in-Ok-Some.end.how c.is_known-known.result d.server c.end_check.new.self
     (entry_of.CheckEnded c.args.host c.in-Ok-Some.end.how) adds d.there
     (λ e. absurd (not-undialled c.host.result.now c.in-Some-Some.began c.limit_of-limit.result c.args.moment ends.0 c.in-Ok-Some.end.event c.in-Ok-Some.end.how ends.1 e))
     on only ready.now (omega arith) knows (c.end_check.ensures.ends ∙ ap (check_ends c.args.moment c.in-Ok-Some.end.how c.is_known-known.result) is_2) kept_2
@@ -268,10 +268,10 @@ follow_end-requires-clause-writing g c =
     let r : Recorded = c.reserve.new.self.trail in
     let same = c.reserve.ensures.same in
     let point : r.point ≡ c.self.inside.wired.trail.point = ap (λ s. s.trail.point) same in
-    let kept : IsKept r c.reserve.new.self.lines c.self.inside.topology.topology c.self.inside.servers.items c.self.inside.gossip c.self.inside.standing c.self.inside.last c.self.inside.stopped =
-    IsKept-room c.self.inside.wired c.reserve.new.self c.self.inside.topology.topology c.self.inside.servers.items c.self.inside.gossip c.self.inside.standing c.self.inside.last c.self.inside.stopped same c.reserve.ensures.kept c.self.invariant in
+    let kept : IsKept r c.reserve.new.self.lines c.self.inside.topology.topology c.self.inside.servers.items c.self.inside.gossip c.self.inside.closings c.self.inside.last c.self.inside.stopped =
+    IsKept-room c.self.inside.wired c.reserve.new.self c.self.inside.topology.topology c.self.inside.servers.items c.self.inside.gossip c.self.inside.closings c.self.inside.last c.self.inside.stopped same c.reserve.ensures.kept c.self.invariant in
     let running : IsRunning r c.reserve.new.self.lines c.self.inside.servers.items c.args.host =
-    IsRunning-of r c.reserve.new.self.lines c.self.inside.topology.topology c.self.inside.servers.items c.self.inside.gossip c.self.inside.standing c.self.inside.last c.self.inside.stopped c.args.host kept ready.runs
+    IsRunning-of r c.reserve.new.self.lines c.self.inside.topology.topology c.self.inside.servers.items c.self.inside.gossip c.self.inside.closings c.self.inside.last c.self.inside.stopped c.args.host kept ready.runs
     (subst (λ (p : Point). AtServer p.state c.args.host (λ s. (began : ℕ) × Runs began s)) (sym point) runs) in
     let d : IsDriven r c.reserve.new.self.lines c.self.inside.servers.items c.args.host c.in-Some-Some.stream c.in-Some-Some.began =
     IsDriven-of r c.reserve.new.self.lines c.self.inside.servers.items c.args.host c.in-Some-Some.stream c.in-Some-Some.began c.index-server.result.now running c.index-server.ensures
@@ -279,7 +279,7 @@ follow_end-requires-clause-writing g c =
     let paid : r.point.owed ≡ [] = ap (λ (p : Point). p.owed) point ∙ ready.paid in
     let ends = rw c.in-Ok-Some.field-0-is at c.in-Ok-Some.ensures.ends in
     let adds = c.append.ensures.adds (fact.CheckEnded c.args.host c.in-Ok-Some.end.how) refl in
-    let more : IsAtLeast (record { names = 0; events = 0; sessions = 0; requests = 0; steps = c.self.inside.standing + 2 }) r.room =
+    let more : IsAtLeast (record { names = 0; events = 0; sessions = 0; requests = 0; steps = c.self.inside.closings + 2 }) r.room =
     subst (λ (m : Room). IsAtLeast m r.room) c.in_ok-room.ensures c.in_ok-reserve.ensures.room in
     let steps = more.steps in
     let used = adds.room_used.steps in
@@ -312,10 +312,10 @@ follow_end-requires-clause-count g c =
     let r : Recorded = c.reserve.new.self.trail in
     let same = c.reserve.ensures.same in
     let point : r.point ≡ c.self.inside.wired.trail.point = ap (λ s. s.trail.point) same in
-    let kept : IsKept r c.reserve.new.self.lines c.self.inside.topology.topology c.self.inside.servers.items c.self.inside.gossip c.self.inside.standing c.self.inside.last c.self.inside.stopped =
-    IsKept-room c.self.inside.wired c.reserve.new.self c.self.inside.topology.topology c.self.inside.servers.items c.self.inside.gossip c.self.inside.standing c.self.inside.last c.self.inside.stopped same c.reserve.ensures.kept c.self.invariant in
+    let kept : IsKept r c.reserve.new.self.lines c.self.inside.topology.topology c.self.inside.servers.items c.self.inside.gossip c.self.inside.closings c.self.inside.last c.self.inside.stopped =
+    IsKept-room c.self.inside.wired c.reserve.new.self c.self.inside.topology.topology c.self.inside.servers.items c.self.inside.gossip c.self.inside.closings c.self.inside.last c.self.inside.stopped same c.reserve.ensures.kept c.self.invariant in
     let running : IsRunning r c.reserve.new.self.lines c.self.inside.servers.items c.args.host =
-    IsRunning-of r c.reserve.new.self.lines c.self.inside.topology.topology c.self.inside.servers.items c.self.inside.gossip c.self.inside.standing c.self.inside.last c.self.inside.stopped c.args.host kept ready.runs
+    IsRunning-of r c.reserve.new.self.lines c.self.inside.topology.topology c.self.inside.servers.items c.self.inside.gossip c.self.inside.closings c.self.inside.last c.self.inside.stopped c.args.host kept ready.runs
     (subst (λ (p : Point). AtServer p.state c.args.host (λ s. (began : ℕ) × Runs began s)) (sym point) runs) in
     let adds = c.append.ensures.adds (fact.CheckEnded c.args.host c.in-Ok-Some.end.how) refl in
     let few = rw c.in-Ok-Some.field-0-is at c.in-Ok-Some.ensures.few in
@@ -372,10 +372,10 @@ returns-in-Ok-None-clause-waits g c =
     let r : Recorded = c.reserve.new.self.trail in
     let same = c.reserve.ensures.same in
     let point : r.point ≡ c.self.inside.wired.trail.point = ap (λ s. s.trail.point) same in
-    let kept : IsKept r c.reserve.new.self.lines c.self.inside.topology.topology c.self.inside.servers.items c.self.inside.gossip c.self.inside.standing c.self.inside.last c.self.inside.stopped =
-    IsKept-room c.self.inside.wired c.reserve.new.self c.self.inside.topology.topology c.self.inside.servers.items c.self.inside.gossip c.self.inside.standing c.self.inside.last c.self.inside.stopped same c.reserve.ensures.kept c.self.invariant in
+    let kept : IsKept r c.reserve.new.self.lines c.self.inside.topology.topology c.self.inside.servers.items c.self.inside.gossip c.self.inside.closings c.self.inside.last c.self.inside.stopped =
+    IsKept-room c.self.inside.wired c.reserve.new.self c.self.inside.topology.topology c.self.inside.servers.items c.self.inside.gossip c.self.inside.closings c.self.inside.last c.self.inside.stopped same c.reserve.ensures.kept c.self.invariant in
     let running : IsRunning r c.reserve.new.self.lines c.self.inside.servers.items c.args.host =
-    IsRunning-of r c.reserve.new.self.lines c.self.inside.topology.topology c.self.inside.servers.items c.self.inside.gossip c.self.inside.standing c.self.inside.last c.self.inside.stopped c.args.host kept ready.runs
+    IsRunning-of r c.reserve.new.self.lines c.self.inside.topology.topology c.self.inside.servers.items c.self.inside.gossip c.self.inside.closings c.self.inside.last c.self.inside.stopped c.args.host kept ready.runs
     (subst (λ (p : Point). AtServer p.state c.args.host (λ s. (began : ℕ) × Runs began s)) (sym point) runs) in
     let d : IsDriven r c.reserve.new.self.lines c.self.inside.servers.items c.args.host c.in-Some-Some.stream c.in-Some-Some.began =
     IsDriven-of r c.reserve.new.self.lines c.self.inside.servers.items c.args.host c.in-Some-Some.stream c.in-Some-Some.began c.index-server.result.now running c.index-server.ensures
@@ -392,10 +392,10 @@ returns-in_ok-follow_end-in-Ok-Some-clause-ends g c =
     let r : Recorded = c.reserve.new.self.trail in
     let same = c.reserve.ensures.same in
     let point : r.point ≡ c.self.inside.wired.trail.point = ap (λ s. s.trail.point) same in
-    let kept : IsKept r c.reserve.new.self.lines c.self.inside.topology.topology c.self.inside.servers.items c.self.inside.gossip c.self.inside.standing c.self.inside.last c.self.inside.stopped =
-    IsKept-room c.self.inside.wired c.reserve.new.self c.self.inside.topology.topology c.self.inside.servers.items c.self.inside.gossip c.self.inside.standing c.self.inside.last c.self.inside.stopped same c.reserve.ensures.kept c.self.invariant in
+    let kept : IsKept r c.reserve.new.self.lines c.self.inside.topology.topology c.self.inside.servers.items c.self.inside.gossip c.self.inside.closings c.self.inside.last c.self.inside.stopped =
+    IsKept-room c.self.inside.wired c.reserve.new.self c.self.inside.topology.topology c.self.inside.servers.items c.self.inside.gossip c.self.inside.closings c.self.inside.last c.self.inside.stopped same c.reserve.ensures.kept c.self.invariant in
     let running : IsRunning r c.reserve.new.self.lines c.self.inside.servers.items c.args.host =
-    IsRunning-of r c.reserve.new.self.lines c.self.inside.topology.topology c.self.inside.servers.items c.self.inside.gossip c.self.inside.standing c.self.inside.last c.self.inside.stopped c.args.host kept ready.runs
+    IsRunning-of r c.reserve.new.self.lines c.self.inside.topology.topology c.self.inside.servers.items c.self.inside.gossip c.self.inside.closings c.self.inside.last c.self.inside.stopped c.args.host kept ready.runs
     (subst (λ (p : Point). AtServer p.state c.args.host (λ s. (began : ℕ) × Runs began s)) (sym point) runs) in
     let d : IsDriven r c.reserve.new.self.lines c.self.inside.servers.items c.args.host c.in-Some-Some.stream c.in-Some-Some.began =
     IsDriven-of r c.reserve.new.self.lines c.self.inside.servers.items c.args.host c.in-Some-Some.stream c.in-Some-Some.began c.index-server.result.now running c.index-server.ensures

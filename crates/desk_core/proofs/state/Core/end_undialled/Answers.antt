@@ -18,7 +18,7 @@ use Rattle.desk_trail.specs.States.{ClientState, ServerState}
 use Rattle.desk_trail.specs.Topologies.{asks_of, offered_after}
 use Rattle.desk_trail.specs.Written.{IsAtLeast, an_entry}
 use Rattle.legal_trail.specs.Recorded.{Recorded}
-use Rattle.desk_core.proofs.AppendsLemmas.{Appends-adds, Appends-quiet, Appends-refl, Appends-room, Appends-trans, AreLonger-refl}
+use Rattle.desk_core.proofs.AppendsLemmas.{Appends-adds, Appends-quiet, Appends-refl, Appends-room, Appends-trans, AreLonger-refl, kept-by_end}
 use Rattle.desk_core.proofs.CheckLemmas.{IsKept-ended, IsOwedBy-broken, StandsAt-ended, all_same, none_kept}
 use Rattle.desk_core.proofs.DropLemmas.{read-there}
 use Rattle.desk_core.proofs.KeptLemmas.{IsKept-room}
@@ -34,7 +34,7 @@ returns-in_err-room-clause-appends g c = rw (← c.self.view_is) (Appends-refl c
 
 pub invariant_of-self : goal.invariant_of-self
 invariant_of-self g c =
-    IsKept-room c.self.inside.wired c.reserve.new.self c.self.inside.topology.topology c.self.inside.servers.items c.self.inside.gossip c.self.inside.standing c.self.inside.last c.self.inside.stopped
+    IsKept-room c.self.inside.wired c.reserve.new.self c.self.inside.topology.topology c.self.inside.servers.items c.self.inside.gossip c.self.inside.closings c.self.inside.last c.self.inside.stopped
     c.reserve.ensures.same c.reserve.ensures.kept c.self.invariant
 
 pub returns-in_err-reserve-clause-appends : goal.returns-in_err-reserve-clause-appends
@@ -106,7 +106,7 @@ invariant_of-self-2 g c =
     let r : Recorded = c.reserve.new.self.trail in
     let how : c.in_ok-end.end.how ≡ how_of.NoDial = ap (λ e. e.how) c.in_ok-end.ensures in
     let kept =
-    IsKept-room c.self.inside.wired c.reserve.new.self c.self.inside.topology.topology c.self.inside.servers.items c.self.inside.gossip c.self.inside.standing c.self.inside.last c.self.inside.stopped
+    IsKept-room c.self.inside.wired c.reserve.new.self c.self.inside.topology.topology c.self.inside.servers.items c.self.inside.gossip c.self.inside.closings c.self.inside.last c.self.inside.stopped
     c.reserve.ensures.same c.reserve.ensures.kept c.self.invariant in
     let there : slice_get c.self.inside.servers.items c.args.host ≡ Some due.0 = ap (λ (s : ClientState). slice_get s.servers c.args.host) (sym h.state) ∙ due.1 in
     let is : c.index_mut-server.result.now ≡ due.0 =
@@ -115,12 +115,12 @@ invariant_of-self-2 g c =
     let known : c.is_known-known.result ≡ stands_known c.self.inside.topology.topology due.0.address =
     c.is_known-known.ensures ∙ ap (stands_known c.self.inside.topology.topology) (c.host-2.ensures.address ∙ ap (λ (s : ServerState). s.address) read) in
     let adds = c.append.ensures.adds (fact.CheckEnded c.args.host c.in_ok-end.end.how) refl in
-    let more : IsAtLeast (record { names = 0; events = 0; sessions = 0; requests = 0; steps = c.self.inside.standing + 1 }) r.room =
+    let more : IsAtLeast (record { names = 0; events = 0; sessions = 0; requests = 0; steps = c.self.inside.closings + 1 }) r.room =
     subst (λ (m : Room). IsAtLeast m r.room) c.in_ok-room.ensures c.in_ok-reserve.ensures.room in
     let steps = more.steps in
     let used = adds.room_used.steps in
     IsKept-ended r c.append.new.self.trail c.reserve.new.self.lines c.append.new.self.lines c.self.inside.topology.topology c.self.inside.servers.items c.self.inside.gossip
-    c.self.inside.standing c.self.inside.last c.args.moment c.args.host c.self.inside.stopped c.in_ok-end.end.how c.is_known-known.result due.0 c.end_check.new.self
+    c.self.inside.closings c.self.inside.last c.args.moment c.args.host c.self.inside.stopped c.in_ok-end.end.how c.is_known-known.result due.0 c.end_check.new.self
     (entry_of.CheckEnded c.args.host c.in_ok-end.end.how) adds there (λ n. due.2.1) (none_kept (ap (λ k. kept_stream k due.0.check_stream) how))
     (all_same (ap (λ s. s.lines) c.append.ensures.same)) ready.now (omega arith) known
     (c.end_check.ensures.ends ∙ ap (check_ends c.args.moment c.in_ok-end.end.how c.is_known-known.result) is) kept
@@ -140,7 +140,7 @@ offer-requires-clause-writing g c =
     ap (λ e. e.event) c.in_ok-end.ensures ∙ ap (λ a. event_of.Broken a None) (c.host.ensures.address ∙ ap (λ (s : ServerState). s.address) read) in
     let o = IsOwedBy-broken k due.0 c.in_ok-end.end.event how event in
     let adds = c.append.ensures.adds (fact.CheckEnded c.args.host k) refl in
-    let more : IsAtLeast (record { names = 0; events = 0; sessions = 0; requests = 0; steps = c.self.inside.standing + 1 }) r.room =
+    let more : IsAtLeast (record { names = 0; events = 0; sessions = 0; requests = 0; steps = c.self.inside.closings + 1 }) r.room =
     subst (λ (m : Room). IsAtLeast m r.room) c.in_ok-room.ensures c.in_ok-reserve.ensures.room in
     let steps = more.steps in
     let used = adds.room_used.steps in (
@@ -187,7 +187,7 @@ returns-clause-ok g c =
     ap (λ e. e.event) c.in_ok-end.ensures ∙ ap (λ a. event_of.Broken a None) (c.host.ensures.address ∙ ap (λ (s : ServerState). s.address) read) in
     let o = IsOwedBy-broken k due.0 c.in_ok-end.end.event how event in
     let adds = c.append.ensures.adds (fact.CheckEnded c.args.host k) refl in
-    let more : IsAtLeast (record { names = 0; events = 0; sessions = 0; requests = 0; steps = c.self.inside.standing + 1 }) r.room =
+    let more : IsAtLeast (record { names = 0; events = 0; sessions = 0; requests = 0; steps = c.self.inside.closings + 1 }) r.room =
     subst (λ (m : Room). IsAtLeast m r.room) c.in_ok-room.ensures c.in_ok-reserve.ensures.room in
     let steps = more.steps in
     let used = adds.room_used.steps in
@@ -214,7 +214,7 @@ returns-clause-appends g c =
     (Appends-trans c.args.moment old r c.offer.new.self.trail (Appends-room c.args.moment old r r.room (ap (λ s. s.trail) c.reserve.ensures.same))
     (Appends-trans c.args.moment r between c.offer.new.self.trail
     (Appends-adds an_entry r.lists c.args.moment (entry_of.CheckEnded c.args.host k) (fact.CheckEnded c.args.host k) r between (AreLonger-refl r.lists)
-    (c.append.ensures.adds (fact.CheckEnded c.args.host k) refl) (λ e. tt))
+    (c.append.ensures.adds (fact.CheckEnded c.args.host k) refl) (λ e. tt) (kept-by_end r.client c.args.moment r.point.state c.args.host k))
     (Appends-quiet c.args.moment between c.offer.new.self.trail c.offer.ensures.appends)))
 
 pub returns-clause-rests : goal.returns-clause-rests

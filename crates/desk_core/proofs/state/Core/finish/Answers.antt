@@ -7,7 +7,7 @@ use Rattle.desk_core.proofs.state.Core.finish.Goals as goal
 pub shut_pools-requires-clause-idle : goal.shut_pools-requires-clause-idle
 shut_pools-requires-clause-idle g c = λ x s e.
     let kept = (c.self.invariant.leads c.if-not-stopped.true).kept x s (sym (ap (λ l. slice_get l x) c.deref.ensures.value) ∙ e) in
-    (kept.paid, kept.none)
+    kept.paid
 
 pub returns-clause-grown : goal.returns-clause-grown
 returns-clause-grown g c =

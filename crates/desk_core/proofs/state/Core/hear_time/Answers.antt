@@ -1,11 +1,11 @@
-use Rattle.std.proofs.Common.{◌≡◌, ◌≢◌, None, true, false, refl, sym, ap, ◌∙◌, subst, arith}
+use Rattle.std.proofs.Common.{◌≡◌, None, true, refl, sym, ap, ◌∙◌, subst, arith}
 use Rattle.desk_trail.specs.declared.entry.Entry.TheVariants as entry_of
 use Rattle.desk_trail.specs.Facts.{Lists}
 use Rattle.desk_trail.specs.Facts as fact
 use Rattle.desk_trail.specs.Legal.{Exceeds, Point}
 use Rattle.desk_trail.specs.States.{ClientState}
 use Rattle.desk_trail.specs.Written.{an_entry}
-use Rattle.desk_core.proofs.AppendsLemmas.{Appends-adds, AreLonger-refl}
+use Rattle.desk_core.proofs.AppendsLemmas.{Appends-adds, AreLonger-refl, kept-by_time}
 use Rattle.desk_core.proofs.CheckLemmas.{Exceeds-kept, IsKept-told, StandsAt-told, exceeds}
 use Rattle.desk_core.proofs.state.Core.hear_time.Goals as goal
 
@@ -31,7 +31,7 @@ invariant_of-self g c =
     let space = w.1.space in
     let used = adds.room_used.steps in
     IsKept-told c.self.inside.wired.trail c.append.new.self.trail c.self.inside.wired.lines c.append.new.self.lines c.self.inside.topology.topology c.self.inside.servers.items
-    c.self.inside.gossip c.advance.new.self c.in-Some.time c.self.inside.standing c.self.inside.last c.args.moment c.self.inside.stopped (entry_of.Time c.in-Some.time.stamp) adds news
+    c.self.inside.gossip c.advance.new.self c.in-Some.time c.self.inside.closings c.self.inside.last c.args.moment c.self.inside.stopped (entry_of.Time c.in-Some.time.stamp) adds news
     c.advance.ensures.greater (ap (λ s. s.lines) c.append.ensures.same) w.1.now (omega arith) c.self.invariant
 
 pub returns-clause-writing : goal.returns-clause-writing
@@ -58,4 +58,4 @@ pub returns-clause-appends : goal.returns-clause-appends
 returns-clause-appends g c =
     rw (← c.self.view_is)
     (Appends-adds an_entry c.self.inside.wired.trail.lists c.args.moment (entry_of.Time c.in-Some.time.stamp) (fact.Time c.in-Some.time.stamp) c.self.inside.wired.trail
-    c.append.new.self.trail (AreLonger-refl c.self.inside.wired.trail.lists) (c.append.ensures.adds (fact.Time c.in-Some.time.stamp) refl) (λ e. absurd (cc)))
+    c.append.new.self.trail (AreLonger-refl c.self.inside.wired.trail.lists) (c.append.ensures.adds (fact.Time c.in-Some.time.stamp) refl) (λ e. absurd (cc)) (kept-by_time c.self.inside.wired.trail.client c.args.moment c.self.inside.wired.trail.point.state c.in-Some.time.stamp))

@@ -7,12 +7,12 @@ use Rattle.legal_trail.specs.Recorded.{Recorded}
 use Rattle.desk_core.proofs.AppendsLemmas.{Appends-room}
 use Rattle.desk_core.proofs.KeptLemmas.{IsKept-named, IsKept-room, StandsAt-named}
 use Rattle.desk_core.proofs.RestLemmas.{KeepsChecks-append}
-use Rattle.desk_core.proofs.ServerLemmas.{IsUntouched-append, standing_within}
+use Rattle.desk_core.proofs.ServerLemmas.{IsUntouched-append}
 use Rattle.desk_core.proofs.state.Core.name.Goals as goal
 
 pub invariant_of-self : goal.invariant_of-self
 invariant_of-self g c =
-    IsKept-room c.self.inside.wired c.reserve.new.self c.self.inside.topology.topology c.self.inside.servers.items c.self.inside.gossip c.self.inside.standing c.self.inside.last c.self.inside.stopped
+    IsKept-room c.self.inside.wired c.reserve.new.self c.self.inside.topology.topology c.self.inside.servers.items c.self.inside.gossip c.self.inside.closings c.self.inside.last c.self.inside.stopped
     c.reserve.ensures.same c.reserve.ensures.kept c.self.invariant
 
 pub returns-in_err-reserve-clause-appends : goal.returns-in_err-reserve-clause-appends
@@ -23,7 +23,7 @@ returns-in_err-reserve-clause-appends g c =
 pub invariant_of-self-in_err-reserve-2 : goal.invariant_of-self-in_err-reserve-2
 invariant_of-self-in_err-reserve-2 g c =
     rw c.reserve-2.ensures.items
-    (IsKept-room c.self.inside.wired c.reserve.new.self c.self.inside.topology.topology c.self.inside.servers.items c.self.inside.gossip c.self.inside.standing c.self.inside.last c.self.inside.stopped
+    (IsKept-room c.self.inside.wired c.reserve.new.self c.self.inside.topology.topology c.self.inside.servers.items c.self.inside.gossip c.self.inside.closings c.self.inside.last c.self.inside.stopped
     c.reserve.ensures.same c.reserve.ensures.kept c.self.invariant)
 
 pub returns-in_err-reserve-2-clause-appends : goal.returns-in_err-reserve-2-clause-appends
@@ -35,21 +35,12 @@ pub name-requires-clause-stands : goal.name-requires-clause-stands
 name-requires-clause-stands g c =
     let w = rw (← c.self.view_is) at c.requires.writing in
     let reserved =
-    IsKept-room c.self.inside.wired c.reserve.new.self c.self.inside.topology.topology c.self.inside.servers.items c.self.inside.gossip c.self.inside.standing c.self.inside.last c.self.inside.stopped
+    IsKept-room c.self.inside.wired c.reserve.new.self c.self.inside.topology.topology c.self.inside.servers.items c.self.inside.gossip c.self.inside.closings c.self.inside.last c.self.inside.stopped
     c.reserve.ensures.same c.reserve.ensures.kept c.self.invariant in
     let point : c.reserve.new.self.trail.point ≡ c.self.inside.wired.trail.point = ap (λ s. s.trail.point) c.reserve.ensures.same in
     StandsAt-named c.reserve.new.self.trail c.reserve.new.self.lines c.self.inside.topology.topology c.self.inside.servers.items c.self.inside.gossip c.self.inside.last c.args.moment
     c.args.host.now c.in_ok-name.name w.0 (ap (λ (p : Point). p.owed) point ∙ w.2.owes) (ap (λ (p : Point). p.moment) point ∙ w.2.at) c.in_ok-name.ensures.name
     (reserved.leads w.2.runs)
-
-pub overflow_add-self : goal.overflow_add-self
-overflow_add-self g c =
-    let w = rw (← c.self.view_is) at c.requires.writing in
-    let h = c.self.invariant.leads w.2.runs in
-    let numbers = h.numbers in
-    let within = standing_within c.self.inside.servers.items in
-    let counted = c.self.invariant.counted in
-    omega arith
 
 pub invariant_of-self-2 : goal.invariant_of-self-2
 invariant_of-self-2 g c =
@@ -57,7 +48,7 @@ invariant_of-self-2 g c =
     let w = rw (← c.self.view_is) at c.requires.writing in
     let count = rw (← c.self.view_is) at c.requires.count in
     let reserved =
-    IsKept-room c.self.inside.wired c.reserve.new.self c.self.inside.topology.topology c.self.inside.servers.items c.self.inside.gossip c.self.inside.standing c.self.inside.last c.self.inside.stopped
+    IsKept-room c.self.inside.wired c.reserve.new.self c.self.inside.topology.topology c.self.inside.servers.items c.self.inside.gossip c.self.inside.closings c.self.inside.last c.self.inside.stopped
     c.reserve.ensures.same c.reserve.ensures.kept c.self.invariant in
     let lists : old.lists ≡ c.self.inside.wired.trail.lists = ap (λ s. s.trail.lists) c.reserve.ensures.same in
     let few : length old.lists.names < 2 ^ 32 = rw lists count in
@@ -69,9 +60,10 @@ invariant_of-self-2 g c =
     let space = w.2.space in
     let more = c.reserve.ensures.kept.steps in
     let used = c.name-2.ensures.adds.room_used.steps in
-    IsKept-named old c.name-2.new.self.trail c.reserve.new.self.lines c.name-2.new.self.lines c.self.inside.topology.topology c.self.inside.servers.items
-    c.push_reserved.new.self.items c.self.inside.gossip c.self.inside.standing c.self.inside.last c.args.moment (length old.lists.names) c.self.inside.stopped c.in_ok-name.server
-    c.in_ok-name.name (entry_of.Named (length old.lists.names)) c.name-2.ensures.adds few w.2.now (omega arith) (ap (λ s. s.lines) c.name-2.ensures.same) fresh c.in_ok-name.ensures.paced pushed reserved
+    rw c.in_ok-closings.ensures
+    (IsKept-named old c.name-2.new.self.trail c.reserve.new.self.lines c.name-2.new.self.lines c.self.inside.topology.topology c.self.inside.servers.items
+    c.push_reserved.new.self.items c.self.inside.gossip c.self.inside.closings c.self.inside.last c.args.moment (length old.lists.names) c.self.inside.stopped c.in_ok-name.server
+    c.in_ok-name.name (entry_of.Named (length old.lists.names)) c.name-2.ensures.adds few w.2.now (omega arith) (ap (λ s. s.lines) c.name-2.ensures.same) fresh c.in_ok-name.ensures.paced pushed reserved)
 
 pub returns-clause-others : goal.returns-clause-others
 returns-clause-others g c = λ a differ.

@@ -1,4 +1,4 @@
-use Rattle.std.proofs.Common.{◌≡◌, [], ◌++◌, map, sym, ap, ◌∙◌, arith}
+use Rattle.std.proofs.Common.{[], map, sym, ap, ◌∙◌, arith}
 use Rattle.std.proofs.lemmas.List.{append-nil}
 use Rattle.host_name.specs.Addresses.{Address}
 use Rattle.desk_trail.specs.Legal.{Point}

@@ -1,8 +1,7 @@
-use Rattle.std.proofs.Common.{◌≡◌, ◌≤◌, ◌+◌, ◌++◌, ◌∷◌, [], true, false, length, refl, sym, ap, ◌∙◌, subst, arith}
+use Rattle.std.proofs.Common.{◌≡◌, ◌+◌, ◌∷◌, [], true, false, length, refl, sym, ap, ◌∙◌, subst, arith}
 use Rattle.std.specs.FinMap as map
 use Rattle.std.proofs.lemmas.List.{length-append}
 use Rattle.topo_rules.specs.Changes.{IsChange, stands}
-use Rattle.topo_rules.specs.Laws.{listed_by}
 use Rattle.topo_rules.specs.declared.topology.Topology.{Topology}
 use Rattle.topo_rules.specs.Rules as rules
 use Rattle.topo_rules.specs.Rules.{event_host}
@@ -18,7 +17,7 @@ use Rattle.desk_core.specs.Answered.{added_by, removed_by}
 use Rattle.desk_core.specs.Follows.{entries_for, owed_by}
 use Rattle.desk_core.specs.Rests.{KeepsChecks}
 use Rattle.desk_core.proofs.ApartLemmas.{AreApart-change, accepted-stands}
-use Rattle.desk_core.proofs.AppendsLemmas.{Appends-adds, Appends-refl, Appends-room, Appends-trans, AreLonger-events}
+use Rattle.desk_core.proofs.AppendsLemmas.{Appends-adds, Appends-refl, Appends-room, Appends-trans, AreLonger-events, kept-offered}
 use Rattle.desk_core.proofs.KeptLemmas.{IsKept-room}
 use Rattle.desk_core.proofs.OfferLemmas.{IsKept-offered, IsWriting-after, OnOk-by, accepted-owes, change-is, servers-offered, topology-is, verdict-is}
 use Rattle.desk_core.proofs.RestLemmas.{KeepsChecks-same, broken-unknown}
@@ -164,7 +163,7 @@ returns-in-Accepted-clause-appends g c =
     (Appends-trans c.args.moment c.self.inside.wired.trail c.reserve.new.self.trail c.follow.new.self.trail
     (Appends-room c.args.moment c.self.inside.wired.trail c.reserve.new.self.trail c.reserve.new.self.trail.room (ap (λ s. s.trail) c.reserve.ensures.same))
     (Appends-trans c.args.moment c.reserve.new.self.trail c.offer-2.new.self.trail c.follow.new.self.trail
-    (Appends-adds _ _ c.args.moment _ _ c.reserve.new.self.trail c.offer-2.new.self.trail (AreLonger-events _ (c.args.event ∷ [])) c.offer-2.ensures.adds (λ e. absurd (cc)))
+    (Appends-adds _ _ c.args.moment _ _ c.reserve.new.self.trail c.offer-2.new.self.trail (AreLonger-events _ (c.args.event ∷ [])) c.offer-2.ensures.adds (λ e. absurd (cc)) (kept-offered c.args.moment c.args.event c.reserve.new.self.trail.point.state))
     c.follow.ensures.appends))
 
 pub returns-in-Accepted-clause-checks : goal.returns-in-Accepted-clause-checks

@@ -4,7 +4,7 @@ use Rattle.std.proofs.lemmas.Option.{slice_get_read, slice_get_within}
 use Rattle.pool_book.specs.Entries as pool
 use Rattle.desk_trail.specs.Facts as fact
 use Rattle.desk_trail.specs.Pools.{with_pool}
-use Rattle.desk_core.proofs.AppendsLemmas.{Appends-adds, AreLonger-refl}
+use Rattle.desk_core.proofs.AppendsLemmas.{Appends-adds, AreLonger-refl, kept-by_ready}
 use Rattle.desk_core.proofs.PoolLemmas.{Changes-ready, IsKept-changed, IsKeptServer-ready, IsWriting-next, StandsAt-ready, number_of-changed, at-servers, paused-there}
 use Rattle.desk_core.proofs.RestLemmas.{KeepsChecks-changed}
 use Rattle.desk_core.proofs.state.Core.ready_pool.Goals as goal
@@ -68,7 +68,7 @@ pub returns-clause-names : goal.returns-clause-names
 returns-clause-names g c = rw (← c.self.view_is) (ap (λ x. x.names) (c.append.ensures.adds (fact.PoolReady c.args.host) refl).lists_now)
 
 pub returns-clause-appends : goal.returns-clause-appends
-returns-clause-appends g c = rw (← c.self.view_is) (Appends-adds _ _ _ _ _ _ _ (AreLonger-refl _) (c.append.ensures.adds (fact.PoolReady c.args.host) refl) (λ e. absurd (cc)))
+returns-clause-appends g c = rw (← c.self.view_is) (Appends-adds _ _ _ _ _ _ _ (AreLonger-refl _) (c.append.ensures.adds (fact.PoolReady c.args.host) refl) (λ e. absurd (cc)) (kept-by_ready c.self.inside.wired.trail.client c.args.moment c.self.inside.wired.trail.point.state c.args.host))
 
 pub returns-clause-checks : goal.returns-clause-checks
 returns-clause-checks g c =

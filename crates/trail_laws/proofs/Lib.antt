@@ -5,3 +5,4 @@ mod HostLemmas
 mod CommandLemmas
 mod SelectionLemmas
 mod WaitLemmas
+mod SessionLemmas

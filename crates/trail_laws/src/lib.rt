@@ -2,7 +2,9 @@
 //!
 //! - [`hosts`]: each host of the topology has its number (SDAM, Updating the TopologyDescription).
 //! - [`commands`]: what a command waits for, and since when (Server Selection; CMAP, Checking Out a Connection).
+//! - [`sessions`]: how the sessions of commands are held (Driver Sessions; Retryable Writes).
 #![tactic(auto)]
 
 pub mod commands;
 pub mod hosts;
+pub mod sessions;

@@ -7,6 +7,7 @@ mod LossLemmas
 mod MoveLemmas
 mod PlaceLemmas
 mod RefusalLemmas
+mod SendLemmas
 mod SettleLemmas
 mod StepLemmas
 mod SweepLemmas

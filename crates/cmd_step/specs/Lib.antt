@@ -8,6 +8,7 @@ pub mod Looked
 pub mod Losses
 pub mod Places
 pub mod Refusals
+pub mod Sending
 pub mod Settlings
 pub mod Sweeps
 pub mod Times

@@ -1,5 +1,5 @@
-//! What a command does, as entries of the trail: its looks for a server, and its connection (Server Selection; CMAP, Checking Out
-//! a Connection, Checking In a Connection).
+//! What a command does, as entries of the trail: its looks for a server, its connection, and its request (Server Selection; CMAP,
+//! Checking Out a Connection, Checking In a Connection; Retryable Writes, Executing Retryable Write Commands).
 //!
 //! Each call appends entries that may stand, within room that was taken, and moves the command and the servers as `desk_trail`
 //! says that those entries move them: contracts say which entries came, and that the client behind them has the servers and the
@@ -12,13 +12,15 @@
 //!     check_out     it is lent one, is refused, dials one that says hello, or waits
 //!     settle        the greeting was answered: the connection is lent, or shut as stale
 //!     lose          the connection could not be made, or its greeting was refused
+//!   send            its request is queued on its connection
+//!     end_too_large it is larger than its server takes
 //!   end_attempt     its attempt ended behind its request
 //!   check_in        its connection comes back, and is kept or shut
 //!   finish          it is answered
 //! ```
 //!
 //! A stream is closed only where it is in use for the connection that is shut. [`tell_time`] tells the cluster time of a reply.
-//! Sessions and requests are not written here yet.
+//! Sessions are leased and given back by `sess_step`.
 #![tactic(auto)]
 
 mod answering;
@@ -34,6 +36,7 @@ mod got;
 mod looking;
 mod losing;
 mod place;
+mod sending;
 mod settled;
 mod sweeping;
 mod time;
@@ -47,6 +50,7 @@ pub use got::Answer;
 pub use looking::{Looking, record_look};
 pub use losing::{Loss, lose};
 pub use place::At;
+pub use sending::{end_too_large, send};
 pub use settled::{Greeted, Settling};
 pub use sweeping::sweep;
 pub use time::tell_time;

@@ -1,4 +1,4 @@
-// Measures the official Go driver's package bson on one document, as the program wire_bench measures bson_wire:
+// Measures the official Go driver's package bson on one document, as `core_bench documents` measures bson_wire:
 // Unmarshal into a bson.D, and Marshal of what was read.
 package main
 

@@ -1,4 +1,4 @@
-/* Measures libbson on one document beside the program wire_bench. libbson makes no tree of values: "decode" here walks
+/* Measures libbson on one document beside `core_bench documents`. libbson makes no tree of values: "decode" here walks
  * all fields and checks that texts are UTF-8, and "encode" appends each field again, level by level, to a new document. */
 #include <bson/bson.h>
 #include <stdio.h>

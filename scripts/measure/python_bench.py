@@ -1,4 +1,4 @@
-"""Measures Python's bson (of PyMongo) on one document, as the program wire_bench measures bson_wire.
+"""Measures Python's bson (of PyMongo) on one document, as `core_bench documents` measures bson_wire.
 
 usage: python_bench.py FILE ROUNDS
 """

@@ -27,8 +27,6 @@ mod name;
 mod readings;
 mod rows;
 mod same;
-#[cfg(test)]
-mod tests;
 mod text;
 mod topology_version;
 mod value;

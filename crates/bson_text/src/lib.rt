@@ -13,8 +13,6 @@
 mod fault;
 mod flaw;
 mod reading;
-#[cfg(test)]
-mod tests;
 mod walk;
 
 pub use fault::TextFault;

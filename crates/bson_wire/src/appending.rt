@@ -31,21 +31,3 @@ pub fn append(bytes: Vec<u8>, doc: &Document) -> Result<Vec<u8>, EncodeFault>
     put_document(&mut all, doc)?;
     Ok(all)
 }
-
-#[cfg(test)]
-mod tests {
-    use super::append;
-    use bson_doc::Document;
-    use std::test::Fail;
-
-    /// The empty document, 05000000 00, behind a byte.
-    #[test]
-    fn appends_a_document(rt: HostRuntime) -> Result<(), Fail> {
-        let alloc = rt.alloc();
-        let mut bytes = Vec::new(alloc);
-        bytes.push(7)?;
-        let all = append(bytes, &Document::new(alloc))?;
-        assert!(rt; all.as_slice() == [7, 5, 0, 0, 0, 0].as_slice());
-        Ok(())
-    }
-}

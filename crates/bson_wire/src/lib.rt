@@ -31,8 +31,6 @@ mod put;
 mod reading;
 mod sizes;
 mod span;
-#[cfg(test)]
-mod tests;
 mod varying;
 mod writing;
 

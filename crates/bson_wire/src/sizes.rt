@@ -133,22 +133,3 @@ fn size_of_oid(oid: &Oid) -> u64
     let raw: &[u8] = &oid.0;
     raw.len() as u64
 }
-
-#[cfg(test)]
-mod tests {
-    use super::size;
-    use bson_doc::{Document, Name, Text, Value};
-    use std::test::Fail;
-
-    /// The empty document has 5 bytes, and {b: 2147483648} 16: its total, the element 12 6200 0000008000000000, and 00.
-    #[test]
-    fn sizes_of_spellings(rt: HostRuntime) -> Result<(), Fail> {
-        let alloc = rt.alloc();
-        let mut document = Document::new(alloc);
-        assert_eq!(rt; size(&document), 5);
-        let name = Name::new(Text::take(alloc, "b")?)?;
-        document.push(name, Value::Int64(2_147_483_648))?;
-        assert_eq!(rt; size(&document), 16);
-        Ok(())
-    }
-}

@@ -25,8 +25,6 @@ mod hex;
 mod line;
 mod report;
 mod subject;
-#[cfg(test)]
-mod tests;
 mod text;
 mod words;
 

@@ -9,8 +9,6 @@ mod classifying;
 mod codes;
 mod fields;
 mod reading;
-#[cfg(test)]
-mod tests;
 mod times;
 
 pub use classifying::classify;

@@ -25,8 +25,6 @@ mod reading;
 mod said;
 mod seeds;
 mod settings;
-#[cfg(test)]
-mod tests;
 mod uri_option;
 mod values;
 

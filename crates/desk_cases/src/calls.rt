@@ -1,13 +1,17 @@
+ghost use Rattle.script_text.specs.Bounds.{IsBounded};
+
 use crate::log::Log;
 use crate::net::PeerNet;
 use crate::peers::Peers;
 use crate::state::Told;
 use bson_doc::Rows;
 use case_files::{CaseFault, parsed};
+use cmd_build::Command;
 use conn_uri::{Settings, UriFault, parse};
 use desk_core::{Desk, Due, Finished};
 use desk_trail::Trail;
 use net_link::Net;
+use server_pick::KeepAll;
 use std::alloc::Global;
 use std::cell::RefCell;
 use topo_rules::Topology;
@@ -18,26 +22,29 @@ const MOST: usize = 16_777_216;
 /// A client: while it did not end, its core; behind its end, what it left. It opened with a topology.
 #[derive(Drop)]
 pub struct Client<N: Net> {
-    desk: Option<Desk<N>>,
+    pub(crate) desk: Option<Desk<N, KeepAll>>,
     left: Option<Trail>,
     opening: Option<Topology>,
     stopped: bool,
 }
 
-/// The client of a connection string, made at a moment, over a net of these peers, who forget what they were told.
+/// The client of a connection string and of commands, made at a moment, over a net of these peers, who forget what they were told.
 pub fn made<'a>(
     alloc: Global,
     peers: &'a RefCell<Peers>,
     text: &str,
+    commands: Rows<Command>,
     moment: u64,
-) -> Result<Client<PeerNet<'a>>, CaseFault> {
+) -> Result<Client<PeerNet<'a>>, CaseFault>
+    requires bounded { IsBounded commands }
+{
     let settings = settings_of(alloc, text)?;
     let opening = opening_of(alloc, &settings)?;
     if peers.try_replace(Peers::new(alloc)).is_err() {
         return Err(CaseFault::Refused("the peers are in use"));
     }
     let net = PeerNet::new(peers);
-    match Desk::new(alloc, net, settings, Rows::new(alloc), moment) {
+    match Desk::new(alloc, net, settings, commands, KeepAll, moment) {
         Ok(desk) => Ok(Client {
             desk: Some(desk),
             left: None,
@@ -157,11 +164,11 @@ impl<N: Net + Drop> Client<N> {
     }
 
     /// Ends it, where it was made and did not end.
-    pub fn finish(&mut self, moment: u64) -> Result<Told, CaseFault> {
+    pub fn finish(&mut self, alloc: Global, moment: u64) -> Result<Told, CaseFault> {
         let Some(desk) = self.desk.take() else {
             return Err(CaseFault::Refused("no client is there that did not end"));
         };
-        let (trail, stopped) = ended(desk, moment);
+        let (trail, stopped) = ended(alloc, desk, moment);
         self.left = Some(trail);
         self.stopped = stopped;
         Ok(Told::Client)
@@ -169,7 +176,7 @@ impl<N: Net + Drop> Client<N> {
 }
 
 /// What a client leaves at its end, and whether it had stopped.
-fn ended<N: Net + Drop>(desk: Desk<N>, moment: u64) -> (Trail, bool) {
-    let Finished { trail, stopped, .. } = desk.finish(moment);
+fn ended<N: Net + Drop>(alloc: Global, desk: Desk<N, KeepAll>, moment: u64) -> (Trail, bool) {
+    let Finished { trail, stopped, .. } = desk.finish(alloc, moment);
     (trail, stopped)
 }

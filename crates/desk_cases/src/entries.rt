@@ -1,39 +1,45 @@
 //! Entries of a client's trail in words. A host is `NAME/NUMBER`.
+use crate::checkouts::push_check_out;
+use crate::ends::push_answer;
+use crate::hosts::push_of_host;
 use crate::log::Log;
+use crate::looks::push_look;
+use crate::requests::push_asked;
 use case_files::{CaseFault, Memory};
-use desk_trail::{CheckHow, Entry, OfferedHow, Request};
-use msg_wire::{MsgFault, read};
+use desk_trail::{CheckHow, Entry, OfferedHow};
 use std::alloc::Global;
 use topo_rules::TopoEvent;
 
-/// The line of an entry:
+/// The line of an entry. Of the topology, the pools and the checks:
 ///
 /// - `entry Named HOST`, `Dropped HOST`, `PoolReady HOST`, `PoolClear HOST`, `PoolShut HOST`;
 /// - `entry Offered EVENT NAME TAKEN`: EVENT is `Reply`, `Broken` or `Refused`, and TAKEN `accepted`, `differs` where the
 ///   description of the topology is another one by it, `gone`, `stale_version` or `stale_generation`;
-/// - `entry CheckBegan HOST stream=N`, `entry Asked id=N stream=N first` for the first hello on a stream and `next` for a
-///   further one, `entry CheckEnded HOST HOW`;
-/// - `entry Time SECONDS.INCREMENT`.
+/// - `entry CheckBegan HOST stream=N`, `entry CheckDry HOST`, `entry CheckEnded HOST HOW`;
+/// - `entry Asked ..` as [`push_asked`] says, and `entry Time SECONDS.INCREMENT`.
+///
+/// Those of commands are as [`push_look`], [`push_check_out`] and [`push_answer`] say.
 pub fn entry_text(alloc: Global, log: &Log<'_>, entry: &Entry) -> Result<String, CaseFault> {
     let mut line = String::from_str(alloc, "entry ")?;
     match entry {
-        Entry::Offered { event, taken } => push_offered(&mut line, log, *event, *taken)?,
         Entry::Asked { request } => push_asked(alloc, &mut line, log, *request)?,
-        Entry::Time { stamp } => write!(&mut line, "Time {}.{}", stamp >> 32, stamp & 0xffff_ffff)?,
-        Entry::CheckBegan { host, stream } => {
-            push_of_host(&mut line, log, "CheckBegan", *host)?;
-            write!(&mut line, " stream={stream}")?;
-        }
-        Entry::CheckEnded { host, how } => {
-            push_of_host(&mut line, log, "CheckEnded", *host)?;
-            push_how(&mut line, *how)?;
-        }
-        _ => push_plain(&mut line, log, entry)?,
+        _ => push_entry(&mut line, log, entry)?,
     }
     Ok(line)
 }
 
-/// An entry that says no more than a host, or one that checks do not write.
+/// An entry that tells no request.
+fn push_entry(line: &mut String, log: &Log<'_>, entry: &Entry) -> Result<(), Memory> {
+    match entry {
+        Entry::Offered { event, taken } => push_offered(line, log, *event, *taken),
+        Entry::Time { stamp } => push_stamp(line, "Time ", *stamp),
+        Entry::CheckBegan { host, stream } => push_check(line, log, *host, *stream),
+        Entry::CheckEnded { host, how } => push_checked(line, log, *host, *how),
+        _ => push_plain(line, log, entry),
+    }
+}
+
+/// An entry that says no more than a host, or one of a command.
 fn push_plain(line: &mut String, log: &Log<'_>, entry: &Entry) -> Result<(), Memory> {
     match entry {
         Entry::Named { host } => push_of_host(line, log, "Named", *host),
@@ -42,22 +48,36 @@ fn push_plain(line: &mut String, log: &Log<'_>, entry: &Entry) -> Result<(), Mem
         Entry::PoolClear { host } => push_of_host(line, log, "PoolClear", *host),
         Entry::PoolShut { host } => push_of_host(line, log, "PoolShut", *host),
         Entry::CheckDry { host } => push_of_host(line, log, "CheckDry", *host),
-        _ => line.push_str("another"),
+        _ => push_of_command(line, log, entry),
     }
 }
 
-/// The entry's name and its host.
-fn push_of_host(line: &mut String, log: &Log<'_>, name: &str, host: u32) -> Result<(), Memory> {
-    write!(line, "{name} ")?;
-    push_host(line, log, host)
+/// An entry of a command.
+fn push_of_command(line: &mut String, log: &Log<'_>, entry: &Entry) -> Result<(), Memory> {
+    if push_look(line, log, entry)? || push_check_out(line, log, entry)? {
+        return Ok(());
+    }
+    if push_answer(line, log, entry)? {
+        return Ok(());
+    }
+    line.push_str("another")
 }
 
-/// `NAME/NUMBER`.
-pub fn push_host(line: &mut String, log: &Log<'_>, host: u32) -> Result<(), Memory> {
-    match log.names.get(host as usize) {
-        Some(name) => write!(line, "{}/{host}", name.name()),
-        None => write!(line, "none/{host}"),
-    }
+/// A cluster time's stamp: `SECONDS.INCREMENT`.
+pub fn push_stamp(line: &mut String, front: &str, stamp: u64) -> Result<(), Memory> {
+    let seconds = stamp >> 32;
+    let increment = stamp & 0xffff_ffff;
+    write!(line, "{front}{seconds}.{increment}")
+}
+
+fn push_check(line: &mut String, log: &Log<'_>, host: u32, stream: u64) -> Result<(), Memory> {
+    push_of_host(line, log, "CheckBegan", host)?;
+    write!(line, " stream={stream}")
+}
+
+fn push_checked(line: &mut String, log: &Log<'_>, host: u32, how: CheckHow) -> Result<(), Memory> {
+    push_of_host(line, log, "CheckEnded", host)?;
+    push_how(line, how)
 }
 
 fn push_how(line: &mut String, how: CheckHow) -> Result<(), Memory> {
@@ -101,33 +121,5 @@ fn taken_text(taken: OfferedHow) -> &'static str {
         OfferedHow::Gone => " gone",
         OfferedHow::StaleVersion => " stale_version",
         OfferedHow::StaleGeneration => " stale_generation",
-    }
-}
-
-/// The request of a check, whose host the entry ahead of it tells.
-fn push_asked(
-    alloc: Global,
-    line: &mut String,
-    log: &Log<'_>,
-    request: u64,
-) -> Result<(), CaseFault> {
-    match log.requests.get(request as usize) {
-        Some(request) => {
-            write!(line, "Asked id={} stream={}", request.id, request.stream)?;
-            line.push_str(greeting(alloc, request)?)?;
-        }
-        None => line.push_str("Asked none")?,
-    }
-    Ok(())
-}
-
-/// Whether a hello says who is asking.
-fn greeting(alloc: Global, request: &Request) -> Result<&'static str, CaseFault> {
-    match read(alloc, request.bytes.as_slice()) {
-        Ok(message) if message.body.get("hello").is_none() => Ok(" no_hello"),
-        Ok(message) if message.body.get("client").is_some() => Ok(" first"),
-        Ok(_) => Ok(" next"),
-        Err(MsgFault::Memory) => Err(CaseFault::Memory),
-        Err(_) => Ok(" unreadable"),
     }
 }

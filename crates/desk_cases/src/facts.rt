@@ -1,13 +1,15 @@
 //! The facts, each by its first word:
 //!
-//! - behind what peers were told, how many `members` a document has; how many `dials` wait that were told of; how many things
+//! - behind a command how many `commands` there are, and behind what peers were told, how many `members` a document has; how many `dials` wait that were told of; how many things
 //!   were told of the stream and not done, `writes` or `reads`; the `length` of what comes, and `to` which request it answers;
 //! - behind a step of the client, its entries one by one, `entry ..` as [`entry_text`] says, and the `moment` of the last one;
-//!   behind `check` also `answer answered`, `answer wait MOMENT`, `answer again` or `answer memory`;
+//!   behind `check` and `op` also `answer answered`, `answer wait MOMENT`, `answer again` or `answer memory`; behind `next` the
+//!   `command N` that comes next, or `command none`;
 //! - behind each of the client's: the `topology` that its accepted events make, the check that is `due HOST MOMENT` or `due
 //!   none`, where it runs, whether it `stopped`, the streams that are `open` and that were `closed`, and how many bytes each of
 //!   them took, `sent`.
-use crate::entries::{entry_text, push_host};
+use crate::entries::entry_text;
+use crate::hosts::push_host;
 use crate::log::Log;
 use crate::state::{State, Told};
 use crate::stream::Stream;
@@ -30,6 +32,7 @@ pub fn fact_of(alloc: Global, state: &State<'_>, name: &str) -> Result<Option<St
         Told::Message(_, to) if name == "to" => Ok(Some(format!(in alloc; "to {to}")?)),
         Told::Message(_, _) => Ok(None),
         Told::Sight(sight) if name == "answer" => Ok(Some(sight_text(alloc, sight)?)),
+        Told::Next(next) if name == "command" => Ok(Some(next_text(alloc, next)?)),
         Told::Memory if name == "answer" => Ok(Some(String::from_str(alloc, "answer memory")?)),
         _ => client_fact(alloc, state, name),
     }
@@ -40,6 +43,13 @@ fn sight_text(alloc: Global, sight: Sight) -> Result<String, Memory> {
         Sight::Answered => String::from_str(alloc, "answer answered"),
         Sight::Wait { until } => format!(in alloc; "answer wait {until}"),
         Sight::Again => String::from_str(alloc, "answer again"),
+    }
+}
+
+fn next_text(alloc: Global, next: Option<u32>) -> Result<String, Memory> {
+    match next {
+        Some(op) => format!(in alloc; "command {op}"),
+        None => String::from_str(alloc, "command none"),
     }
 }
 

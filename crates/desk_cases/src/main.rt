@@ -1,4 +1,4 @@
-//! The program `desk_cases`: case files of `desk_core`, a client that discovers and checks servers over a net in memory.
+//! The program `desk_cases`: case files of `desk_core`, a client that checks servers and runs commands over a net in memory.
 //!
 //! `desk_cases FILE..` runs the files as `case_files` says. Its steps are those of [`steps`], and their facts those of
 //! [`facts`]. The entries that a step wrote are named one by one, in order: where one was not named, the next step is a complaint,
@@ -6,13 +6,20 @@
 #![tactic(auto)]
 
 mod calls;
+mod checkouts;
+mod commanding;
+mod ends;
 mod entries;
 mod facts;
+mod hosts;
 mod kinds;
 mod log;
+mod looks;
 mod messages;
 mod net;
 mod peers;
+mod requests;
+mod scripts;
 mod state;
 mod steps;
 mod stream;

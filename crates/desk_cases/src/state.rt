@@ -3,6 +3,7 @@ use crate::facts::fact_of;
 use crate::messages::Documents;
 use crate::net::PeerNet;
 use crate::peers::Peers;
+use crate::scripts::Script;
 use crate::steps::step_of;
 use case_files::{CaseFault, Subject, Words};
 use desk_core::Sight;
@@ -16,6 +17,8 @@ pub struct State<'a> {
     pub peers: &'a RefCell<Peers>,
     /// The documents that have names.
     pub documents: Documents,
+    /// The commands of the next client.
+    pub script: Script,
     /// The client.
     pub client: Client<PeerNet<'a>>,
     /// What the last step told.
@@ -37,6 +40,8 @@ pub enum Told {
     Client,
     /// A step of the client came to this.
     Sight(Sight),
+    /// The command that comes next in a lane.
+    Next(Option<u32>),
     /// A step of the client wanted memory.
     Memory,
 }
@@ -47,6 +52,7 @@ impl<'a> State<'a> {
         State {
             peers,
             documents: Documents::new(alloc),
+            script: Script::new(alloc),
             client: Client::none(),
             told: Told::Nothing,
             next: Cell::new(0),
@@ -70,6 +76,7 @@ impl Subject for State<'_> {
         let untold = self.has_untold();
         self.client = Client::none();
         self.documents = Documents::new(alloc);
+        self.script = Script::new(alloc);
         self.told = Told::Nothing;
         self.next.set(0);
         if self.peers.try_replace(Peers::new(alloc)).is_err() {

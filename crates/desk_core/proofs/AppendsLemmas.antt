@@ -5,6 +5,7 @@ use Rattle.std.specs.Option.{option_and_then}
 use Rattle.std.proofs.lemmas.List.{append-nil, length-append}
 use Rattle.std.proofs.lemmas.List.Folds.{list_any-append}
 use Rattle.std.proofs.lemmas.List.Elements.{All-append, All-nil, All-cons}
+use Rattle.bson_doc.specs.declared.ids.Lsid.{Lsid}
 use Rattle.host_name.specs.Addresses.{Address}
 use Rattle.pool_book.specs.declared.answers.CloseReason.{CloseReason}
 use Rattle.topo_rules.specs.declared.event.TopoEvent.{TopoEvent}
@@ -28,6 +29,7 @@ use Rattle.desk_trail.specs.States.{ClientState, number_of, with_server}
 use Rattle.desk_trail.specs.Topologies.{asked_at, asks_of, offered_after, topology_after, verdict_on, with_ask}
 use Rattle.desk_trail.specs.Written.{step_of}
 use Rattle.legal_trail.specs.Recorded.{Adds, Recorded}
+use Rattle.net_link.specs.Causes.{Rose}
 use Rattle.desk_core.specs.Appends.{Appends, AppendsAside, IsLonger, KeepsCommands, tell_fault, tells_fault}
 
 -- ---- Lists that are longer
@@ -50,7 +52,7 @@ IsLonger-length xs ys a = rw (a.grows, length-append xs a.more) (omega arith)
 -- ---- Trails
 
 -- by nothing, where all but the room stays
-grown-same : {R : Type 0} (moment : ℕ) (old new : Recorded) → new.client ≡ old.client → new.lists ≡ old.lists → new.steps ≡ old.steps → Appends R moment old new
+pub grown-same : {R : Type 0} (moment : ℕ) (old new : Recorded) → new.client ≡ old.client → new.lists ≡ old.lists → new.steps ≡ old.steps → Appends R moment old new
 grown-same {R} moment old new client lists steps = record {
   client = client;
   added = [];
@@ -68,7 +70,7 @@ either-true : {R : Type 0} (a b : Bool) → (a ≡ true → R) → (b ≡ true �
 either-true {R} true b f g h = f refl
 either-true {R} false b f g h = g h
 
-grown-trans : {R : Type 0} (moment : ℕ) (old between new : Recorded) → Appends R moment old between → Appends R moment between new → Appends R moment old new
+pub grown-trans : {R : Type 0} (moment : ℕ) (old between new : Recorded) → Appends R moment old between → Appends R moment between new → Appends R moment old new
 grown-trans {R} moment old between new a b = record {
   client = b.client ∙ a.client;
   added = a.added ++ b.added;
@@ -83,7 +85,7 @@ grown-trans {R} moment old between new a b = record {
 }
 
 -- where a call failed, one did that lasted as long or longer
-grown-weaken : {R S : Type 0} (moment : ℕ) (old new : Recorded) → (R → S) → Appends R moment old new → Appends S moment old new
+pub grown-weaken : {R S : Type 0} (moment : ℕ) (old new : Recorded) → (R → S) → Appends R moment old new → Appends S moment old new
 grown-weaken {R} {S} moment old new f a = record {
   client = a.client;
   added = a.added;
@@ -99,17 +101,40 @@ grown-weaken {R} {S} moment old new f a = record {
 -- ---- An entry
 
 -- lists that are as long or longer
-pub record AreLonger (old new : Lists) : Type 0 where
+pub record AreGrown (old new : Lists) : Type 0 where
   pub names : IsLonger old.names new.names
   pub events : IsLonger old.events new.events
   pub sessions : IsLonger old.sessions new.sessions
   pub requests : IsLonger old.requests new.requests
 
+-- the same, the ids of sessions as they were
+pub record AreLonger (old new : Lists) : Type 0 where
+  pub names : IsLonger old.names new.names
+  pub events : IsLonger old.events new.events
+  pub ids : new.sessions ≡ old.sessions
+  pub requests : IsLonger old.requests new.requests
+
+pub AreGrown-longer : (old new : Lists) → AreLonger old new → AreGrown old new
+AreGrown-longer old new l = record {
+  names = l.names;
+  events = l.events;
+  sessions = IsLonger-refl old.sessions new.sessions l.ids;
+  requests = l.requests;
+}
+
+pub AreGrown-session : (l : Lists) (more : List Lsid) → AreGrown l (record l { sessions = l.sessions ++ more })
+AreGrown-session l more = record {
+  names = IsLonger-refl l.names l.names refl;
+  events = IsLonger-refl l.events l.events refl;
+  sessions = IsLonger-by l.sessions (l.sessions ++ more) more refl;
+  requests = IsLonger-refl l.requests l.requests refl;
+}
+
 pub AreLonger-refl : (l : Lists) → AreLonger l l
 AreLonger-refl l = record {
   names = IsLonger-refl l.names l.names refl;
   events = IsLonger-refl l.events l.events refl;
-  sessions = IsLonger-refl l.sessions l.sessions refl;
+  ids = refl;
   requests = IsLonger-refl l.requests l.requests refl;
 }
 
@@ -117,7 +142,7 @@ pub AreLonger-names : (l : Lists) (more : List Address) → AreLonger l (record 
 AreLonger-names l more = record {
   names = IsLonger-by l.names (l.names ++ more) more refl;
   events = IsLonger-refl l.events l.events refl;
-  sessions = IsLonger-refl l.sessions l.sessions refl;
+  ids = refl;
   requests = IsLonger-refl l.requests l.requests refl;
 }
 
@@ -125,7 +150,7 @@ pub AreLonger-events : (l : Lists) (more : List TopoEvent) → AreLonger l (reco
 AreLonger-events l more = record {
   names = IsLonger-refl l.names l.names refl;
   events = IsLonger-by l.events (l.events ++ more) more refl;
-  sessions = IsLonger-refl l.sessions l.sessions refl;
+  ids = refl;
   requests = IsLonger-refl l.requests l.requests refl;
 }
 
@@ -133,11 +158,11 @@ pub AreLonger-requests : (l : Lists) (more : List Request) → AreLonger l (reco
 AreLonger-requests l more = record {
   names = IsLonger-refl l.names l.names refl;
   events = IsLonger-refl l.events l.events refl;
-  sessions = IsLonger-refl l.sessions l.sessions refl;
+  ids = refl;
   requests = IsLonger-by l.requests (l.requests ++ more) more refl;
 }
 
-grown-adds : {R : Type 0} (used : Room) (lists : Lists) (moment : ℕ) (e : Entry) (told : Fact) (old new : Recorded) → AreLonger old.lists lists →
+pub grown-adds : {R : Type 0} (used : Room) (lists : Lists) (moment : ℕ) (e : Entry) (told : Fact) (old new : Recorded) → AreGrown old.lists lists →
     Adds used lists moment e told old new → (tells_fault e ≡ true → R) → Appends R moment old new
 grown-adds {R} used lists moment e told old new longer a quiet =
     let names = ap (λ (l : Lists). l.names) a.lists_now in
@@ -228,6 +253,7 @@ pub Appends-room : {R : Type 0} (moment : ℕ) (old new : Recorded) (room : Room
 Appends-room {R} moment old new room e = record {
   appends = grown-same moment old new (ap (λ (t : Recorded). t.client) e) (ap (λ (t : Recorded). t.lists) e) (ap (λ (t : Recorded). t.steps) e);
   aside = kept old.point.state new.point.state (ap (λ (t : Recorded). t.point.state.commands) e) (ap (λ (t : Recorded). t.point.state.sessions) e);
+  ids = ap (λ (t : Recorded). t.lists.sessions) e;
 }
 
 pub Appends-refl : {R : Type 0} (moment : ℕ) (trail : Recorded) → AppendsAside R moment trail trail
@@ -241,11 +267,18 @@ pub Appends-trans : {R : Type 0} (moment : ℕ) (old between new : Recorded) →
 Appends-trans {R} moment old between new a b = record {
   appends = grown-trans moment old between new a.appends b.appends;
   aside = KeepsCommands-trans old.point.state between.point.state new.point.state a.aside b.aside;
+  ids = b.ids ∙ a.ids;
 }
 
 -- where a call failed, one did that lasted as long or longer
 pub Appends-weaken : {R S : Type 0} (moment : ℕ) (old new : Recorded) → (R → S) → AppendsAside R moment old new → AppendsAside S moment old new
-Appends-weaken {R} {S} moment old new f a = record { appends = grown-weaken moment old new f a.appends; aside = a.aside }
+Appends-weaken {R} {S} moment old new f a = record { appends = grown-weaken moment old new f a.appends; aside = a.aside; ids = a.ids }
+
+-- by two calls, where a call of the net failed in either only where the count of its faults rose
+pub Appends-rose : (m n k moment : ℕ) (old between new : Recorded) → m ≤ n → n ≤ k → AppendsAside (Rose m n) moment old between → AppendsAside (Rose n k) moment between new →
+    AppendsAside (Rose m k) moment old new
+Appends-rose m n k moment old between new first next a b =
+    Appends-trans moment old between new (Appends-weaken moment old between (λ r. omega (arith, r, next)) a) (Appends-weaken moment between new (λ r. omega (arith, r, first)) b)
 
 -- an entry that tells no failed call
 pub Appends-quiet : {R : Type 0} (moment : ℕ) (old new : Recorded) → AppendsAside ⊥ moment old new → AppendsAside R moment old new
@@ -255,8 +288,9 @@ pub Appends-adds : {R : Type 0} (used : Room) (lists : Lists) (moment : ℕ) (e 
     Adds used lists moment e told old new → (tells_fault e ≡ true → R) → KeepsCommands old.point.state (client_after old.client moment old.point.state told) →
     AppendsAside R moment old new
 Appends-adds {R} used lists moment e told old new longer a quiet k = record {
-  appends = grown-adds used lists moment e told old new longer a quiet;
+  appends = grown-adds used lists moment e told old new (AreGrown-longer old.lists lists longer) a quiet;
   aside =
       let state : new.point.state ≡ client_after old.client moment old.point.state told = ap (λ (p : Point). p.state) a.point_now in
       kept old.point.state new.point.state (ap (λ (w : ClientState). w.commands) state ∙ k.commands) (ap (λ (w : ClientState). w.sessions) state ∙ k.sessions);
+  ids = ap (λ (l : Lists). l.sessions) a.lists_now ∙ longer.ids;
 }

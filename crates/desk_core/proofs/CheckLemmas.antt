@@ -43,8 +43,9 @@ use Rattle.wired_trail.specs.declared.stream_use.StreamUse.TheVariants as for_us
 use Rattle.desk_core.specs.Driven.{IsKeptIdle, IsStillUsed}
 use Rattle.desk_core.specs.Ends.{IsEndBy, IsWhole}
 use Rattle.desk_core.specs.Follows.{IsToOffer}
-use Rattle.desk_core.specs.Kept.{IsKept, LeadsTo, client_of}
+use Rattle.desk_core.specs.Kept.{IsKept, IsReady, IsToBegin, IsWriting, LeadsTo, MayBegin, at_will, client_of, in_turn}
 use Rattle.desk_core.specs.Servers.{AreKeptServers, HasStream, IsKeptServer, closing_of, closings}
+use Rattle.desk_core.specs.State.{Core}
 use Rattle.desk_core.proofs.KeptLemmas.{length-with_entry, restated, servers-of}
 use Rattle.desk_core.proofs.ServerLemmas.{AreKeptServers-closed, AreKeptServers-more, AreKeptServers-set, closing_of-kept, closings-set_kept, map-set}
 
@@ -384,15 +385,54 @@ IsOwedBy-broken h s offered e is = subst (λ (g : CheckHow). IsOwedBy g s offere
 
 -- ---- When their entries may stand
 
-pub StandsAt-began : (client : Client) (p : Point) (moment k stream : ℕ) → p.owed ≡ [] → p.moment ≤ moment → p.state.is_ending ≡ false →
+begins-time : (p : Point) (moment k : ℕ) (rest : List Owed) → MayBegin p moment k rest → p.moment ≤ moment → InTime p.owed p.moment moment
+begins-time p moment k rest (at_will paid none) at = subst (λ o. InTime o p.moment moment) (sym paid) at
+begins-time p moment k rest (in_turn owes now) at = subst (λ o. InTime o p.moment moment) (sym owes) (sym now)
+
+begins-turn : (p : Point) (moment k stream : ℕ) (rest : List Owed) → MayBegin p moment k rest → InTurn p.owed (fact.CheckBegan k stream)
+begins-turn p moment k stream rest (at_will paid none) = subst (λ o. InTurn o (fact.CheckBegan k stream)) (sym paid) tt
+begins-turn p moment k stream rest (in_turn owes now) = subst (λ o. InTurn o (fact.CheckBegan k stream)) (sym owes) refl
+
+ends-turn : (p : Point) (moment k : ℕ) (rest : List Owed) → MayBegin p moment k rest → InTurn p.owed (fact.CheckEnded k how.NoDial)
+ends-turn p moment k rest (at_will paid none) = subst (λ o. InTurn o (fact.CheckEnded k how.NoDial)) (sym paid) tt
+ends-turn p moment k rest (in_turn owes now) = subst (λ o. InTurn o (fact.CheckEnded k how.NoDial)) (sym owes) (refl, refl)
+
+-- what is left behind it
+pub begins-left : (p : Point) (moment k : ℕ) (rest : List Owed) → MayBegin p moment k rest → drop 1 p.owed ≡ rest
+begins-left p moment k rest (at_will paid none) = ap (λ ds. drop 1 ds) paid ∙ sym none
+begins-left p moment k rest (in_turn owes now) = ap (λ ds. drop 1 ds) owes
+
+pub StandsAt-began : (client : Client) (p : Point) (moment k stream : ℕ) (rest : List Owed) → MayBegin p moment k rest → p.moment ≤ moment → p.state.is_ending ≡ false →
     AtServer p.state k (λ s. IsDue moment s × IsCheckStream p.state s.check_stream stream) → StandsAt client p (record { at = moment; what = fact.CheckBegan k stream })
-StandsAt-began client p moment k stream paid at going rule = record {
-  time = subst (λ o. InTime o p.moment moment) (sym paid) at;
-  turn = subst (λ o. InTurn o (fact.CheckBegan k stream)) (sym paid) tt;
+StandsAt-began client p moment k stream rest begins at going rule = record {
+  time = begins-time p moment k rest begins at;
+  turn = begins-turn p moment k stream rest begins;
   going = subst (λ b. MayGoOn b (fact.CheckBegan k stream)) (sym going) tt;
   rule = rule;
   command = tt;
 }
+
+-- a desk of which nothing must come next may begin any check, and is so again where nothing must behind it
+pub IsToBegin-ready : {N : Type 0} (d : Core N) (moment k : ℕ) → IsReady d moment → IsToBegin d moment k []
+IsToBegin-ready d moment k ready = record { runs = ready.runs; now = ready.now; turn = at_will ready.paid refl }
+
+pub IsReady-paid : {N : Type 0} (d : Core N) (moment n : ℕ) → IsWriting d moment n [] → IsReady d moment
+IsReady-paid d moment n w = record { runs = w.runs; paid = w.owes; now = w.now }
+
+-- one that must begin one may
+pub IsToBegin-owed : {N : Type 0} (d : Core N) (moment n k : ℕ) (rest : List Owed) → IsWriting d moment n (owed.Begun k ∷ rest) → IsToBegin d moment k rest
+IsToBegin-owed d moment n k rest w = record { runs = w.runs; now = w.now; turn = in_turn w.owes w.at }
+
+pub StandsAt-undialled : (client : Client) (p : Point) (moment k : ℕ) (h : CheckHow) (rest : List Owed) → h ≡ how.NoDial → MayBegin p moment k rest → p.moment ≤ moment →
+    p.state.is_ending ≡ false → AtServer p.state k (λ s. IsDue moment s × (s.check_stream ≡ None)) → StandsAt client p (record { at = moment; what = fact.CheckEnded k h })
+StandsAt-undialled client p moment k h rest is begins at going rule =
+    subst (λ (g : CheckHow). StandsAt client p (record { at = moment; what = fact.CheckEnded k g })) (sym is) (record {
+      time = begins-time p moment k rest begins at;
+      turn = ends-turn p moment k rest begins;
+      going = subst (λ b. MayGoOn b (fact.CheckEnded k how.NoDial)) (sym going) tt;
+      rule = rule;
+      command = tt;
+    })
 
 pub StandsAt-ended : (client : Client) (p : Point) (moment k : ℕ) (h : CheckHow) → p.owed ≡ [] → p.moment ≤ moment → p.state.is_ending ≡ false →
     AtServer p.state k (MayCheckEnd client moment h) → StandsAt client p (record { at = moment; what = fact.CheckEnded k h })
@@ -404,10 +444,10 @@ StandsAt-ended client p moment k h paid at going rule = record {
   command = tt;
 }
 
-pub StandsAt-hello : (client : Client) (p : Point) (moment k stream place : ℕ) (first : Bool) (r : Request) → p.owed ≡ owed.Hello (purpose.Check k) stream first ∷ [] →
+pub StandsAt-hello : (client : Client) (p : Point) (moment k stream place : ℕ) (first : Bool) (rest : List Owed) (r : Request) → p.owed ≡ owed.Hello (purpose.Check k) stream first ∷ rest →
     p.moment ≡ moment → p.state.is_ending ≡ false → IsHello (purpose.Check k) stream first r → place ≡ p.state.requests → r.id ≡ id_at place →
     StandsAt client p (record { at = moment; what = fact.Asked place r })
-StandsAt-hello client p moment k stream place first r owes at going hello next id = record {
+StandsAt-hello client p moment k stream place first rest r owes at going hello next id = record {
   time = subst (λ o. InTime o p.moment moment) (sym owes) (sym at);
   turn = subst (λ o. InTurn o (fact.Asked place r)) (sym owes) hello;
   going = subst (λ b. MayGoOn b (fact.Asked place r)) (sym going) tt;
@@ -430,15 +470,16 @@ StandsAt-told client p moment stamp at going reply news = record {
 }
 
 -- what holds behind the first of the two entries with which a check begins
-pub record IsBegun (old between : Recorded) (moment k stream : ℕ) (s : ServerState) : Type 0 where
-  pub owes : between.point.owed ≡ owed.Hello (purpose.Check k) stream (not (is_some s.check_stream)) ∷ []
+pub record IsBegun (old between : Recorded) (moment k stream : ℕ) (rest : List Owed) (s : ServerState) : Type 0 where
+  pub owes : between.point.owed ≡ owed.Hello (purpose.Check k) stream (not (is_some s.check_stream)) ∷ rest
   pub at : between.point.moment ≡ moment
   pub going : between.point.state.is_ending ≡ old.point.state.is_ending
   pub requests : between.point.state.requests ≡ old.point.state.requests
 
-pub IsBegun-by : (old between : Recorded) (moment k stream : ℕ) (s : ServerState) (e : Entry) → Adds an_entry old.lists moment e (fact.CheckBegan k stream) old between →
-    slice_get old.point.state.servers k ≡ Some s → old.point.owed ≡ [] → IsBegun old between moment k stream s
-IsBegun-by old between moment k stream s e adds there paid =
+pub IsBegun-by : (old between : Recorded) (moment k stream : ℕ) (rest : List Owed) (s : ServerState) (e : Entry) →
+    Adds an_entry old.lists moment e (fact.CheckBegan k stream) old between → slice_get old.point.state.servers k ≡ Some s → MayBegin old.point moment k rest →
+    IsBegun old between moment k stream rest s
+IsBegun-by old between moment k stream rest s e adds there begins =
     let w : ClientState = old.point.state in
     let is : between.point.state ≡ record w { servers = slice_set w.servers k (check_begins moment stream s); streams = (stream_taken (kept_at w k) stream w).streams } =
     ap (λ (p : Point). p.state) adds.point_now ∙ with_stream_taken w (kept_at w k) stream k s (check_begins moment stream) there in
@@ -446,7 +487,7 @@ IsBegun-by old between moment k stream s e adds there paid =
       owes =
           ap (λ (p : Point). p.owed) adds.point_now
           ∙ ap (λ (o : Option ServerState). owed.Hello (purpose.Check k) stream (not (is_some (stream_kept o))) ∷ drop 1 old.point.owed) there
-          ∙ ap (λ ds. owed.Hello (purpose.Check k) stream (not (is_some s.check_stream)) ∷ drop 1 ds) paid;
+          ∙ ap (λ ds. owed.Hello (purpose.Check k) stream (not (is_some s.check_stream)) ∷ ds) (begins-left old.point moment k rest begins);
       at = ap (λ (p : Point). p.moment) adds.point_now;
       going = ap (λ (v : ClientState). v.is_ending) is;
       requests = ap (λ (v : ClientState). v.requests) is;

@@ -23,7 +23,7 @@ IsFirstOf ss last n None = (x : ℕ) (s : ServerState) → x < n → slice_get s
 IsFirstOf ss last n (Some due) = IsFirst ss last n due
 
 -- a place before the next one is the last of them or before it
-before_or_at : (x n : ℕ) → x < n + 1 → (x < n) ⊎ (x ≡ n)
+pub before_or_at : (x n : ℕ) → x < n + 1 → (x < n) ⊎ (x ≡ n)
 before_or_at x n h = elim (cases_lt x n) [
   | inl a ↦ inl a
   | inr b ↦ inr (omega arith)

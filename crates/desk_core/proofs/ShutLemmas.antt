@@ -1,7 +1,8 @@
 -- The connections that were available in a pool that is closed are shut.
-use Rattle.std.proofs.Common.{◌≡◌, ◌≤◌, ℕ, zero, suc, ◌+◌, Bool, true, false, List, [], ◌∷◌, ◌++◌, map, length, Some, refl, sym, ap, ◌∙◌, subst, arith}
+use Rattle.std.proofs.Common.{◌≡◌, ◌≤◌, ◌<◌, ◌⊎◌, inl, inr, ℕ, zero, suc, ◌+◌, Bool, true, false, List, [], ◌∷◌, ◌++◌, map, length, Some, refl, sym, ap, ◌∙◌, subst, arith}
 use Rattle.std.specs.Prelude.{slice_get, slice_set, if◌then◌else◌}
 use Rattle.std.proofs.Math.ListN.{drop}
+use Rattle.std.proofs.lemmas.Bool.{cases_lt}
 use Rattle.std.proofs.Math.Seq.{set-set}
 use Rattle.entry_judge.specs.declared.timed.Timed.{Timed}
 use Rattle.entry_judge.specs.Groups as judge
@@ -24,6 +25,7 @@ use Rattle.desk_trail.specs.Written.{an_entry}
 use Rattle.legal_trail.specs.Recorded.{Adds, Recorded}
 use Rattle.server_state.specs.PoolMoves.{behind_group}
 use Rattle.desk_core.specs.Moves.{Moves}
+use Rattle.desk_core.specs.Servers.{closing_of, closings}
 use Rattle.desk_core.specs.Shutting.{Shuts, owed_shuts, owing, pool_shuts}
 use Rattle.desk_core.proofs.KeptLemmas.{length-with_entry}
 use Rattle.desk_core.proofs.ServerLemmas.{slice_get-set_other, slice_get-set_same}
@@ -233,3 +235,16 @@ there-shut client p host moment s there idle =
 
 pub others-set : (ss : List ServerState) (host x : ℕ) (t : ServerState) → (x ≡ host → ⊥) → slice_get (slice_set ss host t) x ≡ slice_get ss x
 others-set ss host x t h = slice_get-set_other ss host x t (λ e. h (sym e))
+
+-- ---- All pools
+
+pub at-or-below : (x n : ℕ) → x < n + 1 → (x ≡ n) ⊎ (x < n)
+at-or-below x n h = elim (cases_lt x n) [ inl l ↦ inr l | inr m ↦ inl (omega arith) ]
+
+closings-drop_suc : (ss : List ServerState) (k : ℕ) (s : ServerState) → slice_get ss k ≡ Some s → closings (drop k ss) ≡ closing_of s + closings (drop (suc k) ss)
+closings-drop_suc [] k s there = absurd (cc)
+closings-drop_suc (z ∷ zs) zero s there = let is : z ≡ s = (cc) in ap (λ u. closing_of u + closings zs) is
+closings-drop_suc (z ∷ zs) (suc k) s there = closings-drop_suc zs k s there
+
+pub closings-drop : (ss : List ServerState) (k : ℕ) (s : ServerState) → slice_get ss k ≡ Some s → closings (drop k ss) ≡ closing_of s + closings (drop (k + 1) ss)
+closings-drop ss k s there = let e : suc k ≡ k + 1 = omega arith in closings-drop_suc ss k s there ∙ ap (λ n. closing_of s + closings (drop n ss)) e

@@ -45,8 +45,9 @@ pub record KeepsCommands (old new : ClientState) : Type 0 where
   pub commands : new.commands ≡ old.commands
   pub sessions : new.sessions ≡ old.sessions
 
--- A trail is only appended to, and its client's commands and sessions stay as they are: by the entries of checks, and of the topology
--- and its pools.
+-- A trail is only appended to, and its client's commands and sessions stay as they are, and so do the ids of these: by the entries of
+-- checks, and of the topology and its pools.
 pub record AppendsAside (failed : Type 0) (moment : ℕ) (old new : Recorded) : Type 0 where
   pub appends : Appends failed moment old new
   pub aside : KeepsCommands old.point.state new.point.state
+  pub ids : new.lists.sessions ≡ old.lists.sessions

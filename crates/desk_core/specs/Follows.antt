@@ -6,10 +6,11 @@ use Rattle.host_name.specs.Addresses.{Address, is_same_address}
 use Rattle.topo_rules.specs.declared.change.Change.{Change}
 use Rattle.topo_rules.specs.declared.event.TopoEvent.{TopoEvent}
 use Rattle.desk_trail.specs.declared.entry.OfferedHow.{OfferedHow}
+use Rattle.desk_trail.specs.Checks.{asked}
 use Rattle.desk_trail.specs.Facts as fact
 use Rattle.desk_trail.specs.Owed.{IsOwed, Owed}
 use Rattle.desk_trail.specs.Owed as owed
-use Rattle.desk_trail.specs.States.{ClientState, number_of}
+use Rattle.desk_trail.specs.States.{ClientState, ServerState, changed, number_of}
 use Rattle.desk_trail.specs.Topologies.{cleared, readied}
 
 -- That event is what must be offered next.
@@ -48,3 +49,8 @@ pub record AreApart (c : Change) : Type 0 where
   pub ready_is_left : IsNoneOf c.ready c.removed
   pub clear_stays : IsNoneOf c.clear c.added
   pub clear_is_left : IsNoneOf c.clear c.removed
+
+-- The servers once a check of the one of that number was asked for, where there is one (SDAM, Error handling: request an immediate check).
+abbrev pub asked_in : ℕ → Option ℕ → List ServerState → List ServerState
+asked_in moment None servers = servers
+asked_in moment (Some host) servers = changed servers host (asked moment)

@@ -1,9 +1,11 @@
 -- What a desk keeps.
-use Rattle.std.specs.Prelude.{◌≡◌, ◌≤◌, ◌+◌, ◌^◌, ℕ, Bool, false, List, [], Option, map, length}
+use Rattle.std.specs.Prelude.{◌≡◌, ◌≤◌, ◌+◌, ◌^◌, ℕ, Bool, false, List, [], ◌∷◌, Option, map, length}
 use Rattle.std.specs.Option.{option_map}
 use Rattle.bson_doc.specs.declared.cluster_time.ClusterTime.{ClusterTime}
 use Rattle.topo_rules.specs.declared.topology.Topology.{Topology}
+use Rattle.desk_trail.specs.Legal.{Point}
 use Rattle.desk_trail.specs.Owed.{Owed}
+use Rattle.desk_trail.specs.Owed as owed
 use Rattle.desk_trail.specs.States.{ClientState, ServerState}
 use Rattle.legal_trail.specs.Recorded.{Recorded}
 use Rattle.wired_trail.specs.Lines.{Lines}
@@ -54,3 +56,15 @@ pub record IsReady {N : Type 0} (d : Core N) (moment : ℕ) : Type 0 where
   pub runs : d.is_stopped ≡ false
   pub paid : d.trail.point.owed ≡ []
   pub now : d.last ≡ moment
+
+-- A check of the host may begin there at a moment, with these entries to come next behind it: none must come next, and none behind it;
+-- or the check must, at the moment of the entry ahead.
+pub data MayBegin (p : Point) (moment host : ℕ) (rest : List Owed) : Type 0 where
+  at_will : p.owed ≡ [] → rest ≡ [] → MayBegin p moment host rest
+  in_turn : p.owed ≡ owed.Begun host ∷ rest → p.moment ≡ moment → MayBegin p moment host rest
+
+-- A desk that may begin a check of the host: it runs, and that is the moment of its step.
+pub record IsToBegin {N : Type 0} (d : Core N) (moment host : ℕ) (rest : List Owed) : Type 0 where
+  pub runs : d.is_stopped ≡ false
+  pub now : d.last ≡ moment
+  pub turn : MayBegin d.trail.point moment host rest

@@ -13,3 +13,16 @@ pub mod Answered
 pub mod Ending
 pub mod Sights
 pub mod Rests
+pub mod Commands
+pub mod Steps
+pub mod CheckLines
+pub mod Counts
+pub mod Nexts
+pub mod Running
+pub mod Looks
+pub mod Equips
+pub mod Lending
+pub mod Receiving
+pub mod Sending
+pub mod CheckOuts
+pub mod Greetings

@@ -17,7 +17,7 @@ ghost use Rattle.wired_trail.specs.declared.lines.Line.{Line};
 ghost use Rattle.wired_trail.specs.declared.stream_use.StreamUse.TheVariants as for_use;
 ghost use Rattle.desk_core.specs.Appends.{AppendsAside};
 ghost use Rattle.desk_core.specs.Follows.{IsToOffer};
-ghost use Rattle.desk_core.specs.Kept.{IsReady, IsWriting};
+ghost use Rattle.desk_core.specs.Kept.{IsReady, IsToBegin, IsWriting};
 ghost use Rattle.desk_core.specs.Rests.{HasBegun, HasEnded, KeepsChecks};
 ghost use Rattle.desk_core.specs.Sights.{IsAtRest, IsAwaited};
 
@@ -38,7 +38,7 @@ use topo_rules::TopoEvent;
 use wired_trail::StreamUse;
 
 /// Room for so many more entries, beside the closings of so many pools, and for so many requests.
-fn room_for(closings: usize, entries: usize, requests: usize) -> Result<Room, Memory>
+pub(crate) fn room_for(closings: usize, entries: usize, requests: usize) -> Result<Room, Memory>
     ensures { IfOk result (λ room. room ≡ record { names = 0; events = 0; sessions = 0; requests = requests; steps = closings + entries }) }
 {
     let steps = closings.checked_add(entries).ok_or(AllocError)?;
@@ -62,7 +62,7 @@ fn is_known(book: &TopoBook, host: &Host) -> bool
 }
 
 /// Whether a stamp exceeds that of the greatest cluster time that was seen.
-fn exceeds(gossip: &TimeGossip, stamp: u64) -> bool
+pub(crate) fn exceeds(gossip: &TimeGossip, stamp: u64) -> bool
     ensures { result ≡ option_map_or (λ kept. nat_lt kept.stamp stamp) gossip.now true }
 {
     match gossip.greatest() {
@@ -114,12 +114,12 @@ impl<N: Net> Core<N> {
         }
     }
 
-    /// Begins a check of a server that is due: its hello is queued on the stream that the last check kept, or on a new one
-    /// (Server Monitoring). Where the net gives no stream the check ends at once.
+    /// Begins a check of a server that is due, where nothing must come next or that check must: its hello is queued on the stream
+    /// that the last check kept, or on a new one (Server Monitoring). Where the net gives no stream the check ends at once.
     pub fn begin_check(&mut self, alloc: Global, moment: u64, host: u32) -> Result<(), Memory>
-        requires ready { IsReady self.old moment }
+        requires begins { (rest : List Owed) × IsToBegin self.old moment host rest }
         requires due { AtServer self.old.trail.point.state host (IsDue moment) }
-        ensures ok { OnOk result (IsReady self.new moment) }
+        ensures ok { (rest : List Owed) → IsToBegin self.old moment host rest → OnOk result (IsWriting self.new moment 0 rest) }
         ensures begins { OnOk result (IsAtRest self.new.trail.point.state moment host
             ⊎ HasBegun self.old.trail.point.state self.new.trail.point.state host) }
         ensures faults { N.faults self.old.net ≤ N.faults self.new.net }
@@ -143,11 +143,11 @@ impl<N: Net> Core<N> {
         stream: u64,
         first: bool,
     ) -> Result<(), Memory>
-        requires ready { IsReady self.old moment }
+        requires begins { (rest : List Owed) × IsToBegin self.old moment host rest }
         requires due { AtServer self.old.trail.point.state host (λ s. IsDue moment s
             × IsCheckStream self.old.trail.point.state s.check_stream stream × (first ≡ not (is_some s.check_stream))) }
         requires line { (line : Line) × (line_at self.old.lines stream ≡ Some line) × (line.is_for ≡ for_use.Check host) × (line.wire.unsent ≡ []) }
-        ensures ok { OnOk result (IsReady self.new moment) }
+        ensures ok { (rest : List Owed) → IsToBegin self.old moment host rest → OnOk result (IsWriting self.new moment 0 rest) }
         ensures begins { OnOk result (HasBegun self.old.trail.point.state self.new.trail.point.state host) }
         ensures faults { N.faults self.old.net ≤ N.faults self.new.net }
         ensures appends { AppendsAside ⊥ moment self.old.trail self.new.trail }
@@ -167,9 +167,9 @@ impl<N: Net> Core<N> {
 
     /// A check ends for which the net gave no stream.
     fn end_undialled(&mut self, alloc: Global, moment: u64, host: u32) -> Result<(), Memory>
-        requires ready { IsReady self.old moment }
+        requires begins { (rest : List Owed) × IsToBegin self.old moment host rest }
         requires due { AtServer self.old.trail.point.state host (λ s. IsDue moment s × (s.check_stream ≡ None)) }
-        ensures ok { OnOk result (IsReady self.new moment) }
+        ensures ok { (rest : List Owed) → IsToBegin self.old moment host rest → OnOk result (IsWriting self.new moment 0 rest) }
         ensures rests { OnOk result (IsAtRest self.new.trail.point.state moment host) }
         ensures faults { N.faults self.old.net ≤ N.faults self.new.net }
         ensures appends { AppendsAside (Unit {0}) moment self.old.trail self.new.trail }
@@ -192,7 +192,7 @@ impl<N: Net> Core<N> {
 
     /// A reply carried a cluster time: where that exceeds the greatest that was seen, it is the greatest now (Driver Sessions,
     /// Gossipping the cluster time).
-    fn hear_time(&mut self, moment: u64, time: Option<ClusterTime>)
+    pub fn hear_time(&mut self, moment: u64, time: Option<ClusterTime>)
         requires writing { (debts : List Owed) × IsWriting self.old moment 1 debts }
         requires reply { time ≢ None → self.old.trail.point.is_reply ≡ true }
         ensures writing { (debts : List Owed) → IsWriting self.old moment 1 debts → IsWriting self.new moment 0 debts }
@@ -222,7 +222,6 @@ impl<N: Net> Core<N> {
     ) -> Result<(), Memory>
         requires writing { (first : Owed) × IsWriting self.old moment 1 (first ∷ []) × IsToOffer first event }
         requires reply { time ≢ None → self.old.trail.point.is_reply ≡ true }
-        requires of_check { asks_of event ≡ None }
         requires count { length self.old.trail.lists.names + length (listed_by event) ≤ 2 ^ 32 }
         ensures ok { OnOk result (IsReady self.new moment) }
         ensures checks { OnOk result (KeepsChecks (offered_after moment event self.old.trail.point.state) self.new.trail.point.state) }

@@ -1,4 +1,4 @@
-ghost use Rattle.std.specs.Prelude.{◌≡◌, ◌≤◌, ◌^◌, [], min, true, false, IfErr, IfOk, OnErr, OnOk};
+ghost use Rattle.std.specs.Prelude.{◌≡◌, ◌≤◌, ◌^◌, [], length, min, true, false, IfErr, IfOk, OnErr, OnOk};
 ghost use Rattle.net_link.specs.Causes.{Rose};
 ghost use Rattle.desk_trail.specs.Facts.{facts_of};
 ghost use Rattle.desk_trail.specs.Legal.{IsComplete, IsLegal, point_behind};
@@ -8,79 +8,101 @@ ghost use Rattle.desk_core.specs.Appends.{Appends};
 ghost use Rattle.desk_core.specs.Due.{IsNext};
 ghost use Rattle.desk_core.specs.Ending.{ArePoolsShut};
 ghost use Rattle.desk_core.specs.Sights.{MeansCheck};
-ghost use Rattle.desk_core.specs.State.{now_of};
+ghost use Rattle.desk_trail.specs.Attempts.{AtCommand};
+ghost use Rattle.desk_core.specs.Nexts.{IsNextIn};
+ghost use Rattle.desk_core.specs.State.{AreShallow, now_of};
+ghost use Rattle.desk_core.specs.Steps.{MeansStep};
 
-use crate::opening::{copies_of, seeds_of};
+use crate::counts::InFlight;
+use crate::lanes::next_in;
+use crate::opening::{core_of, operations_of};
+use crate::operation::Operation;
+use crate::parts::Parts;
 use crate::state::Core;
-use crate::{Due, Finished, Memory, Returned, Sight};
+use crate::{Due, Finished, Memory, Returned, Sight, Words};
 use bson_doc::Rows;
 use cmd_build::Command;
 use conn_uri::Settings;
 use desk_trail::{Request, Step};
 use host_name::Host;
 use net_link::Net;
+use server_pick::Picker;
+use sess_step::{CommandAt, LeaseBook};
 use std::alloc::Global;
 use std::marker::Model;
 use topo_rules::TopoEvent;
 use watch_step::LAST_MOMENT;
-use wired_trail::WiredTrail;
 
 /// A client's core. Each call is one step, which waits for nothing: it asks the net, and appends to the trail what came of it.
 ///
 /// Unless it stopped for want of memory, its trail is legal and complete between any two calls; behind a stop it is legal up to
 /// there.
 #[derive(Drop)]
-pub struct Desk<N: Net> {
+pub struct Desk<N: Net, P: Picker> {
     core: Core<N>,
+    operations: Vec<Operation>,
+    parts: Parts<P>,
 }
 
-impl<N: Net> Model for Desk<N> {
-    ghost use Rattle.std.specs.Prelude.{◌≡◌, false, []};
+impl<N: Net, P: Picker> Model for Desk<N, P> {
     ghost use Rattle.desk_core.specs.State.{Desk as State};
+    ghost use Rattle.desk_core.specs.Running.{IsDesk};
     ghost use Rattle.std.specs.Coded.{codes};
     ghost use Rattle.bson_doc.specs.contracts.value.Value as values;
     ghost use Rattle.topo_rules.specs.contracts.topology.Topology as topologies;
 
-    ghost Value = { State N };
+    ghost Value = { State N P };
 
-    ghost coded = { Prim.hlevel (codes, N.code, values.the_row.coded, topologies.the_row.coded) };
+    ghost coded = { Prim.hlevel (codes, N.code, P.code, values.the_row.coded, topologies.the_row.coded) };
 
-    ghost view = { λ d. record { net = d.core.net; trail = d.core.trail; last = d.core.last; is_stopped = d.core.is_stopped } };
+    ghost view = { λ d. record {
+      net = d.core.net;
+      trail = d.core.trail;
+      picker = d.parts.picker;
+      last = d.core.last;
+      is_stopped = d.core.is_stopped;
+    } };
 
-    ghost invariant = { λ d. d.core.is_stopped ≡ false → d.core.trail.point.owed ≡ [] };
+    ghost invariant = { λ d. IsDesk d.core.trail d.operations.items d.parts.in_flight d.parts.sessions d.core.last d.core.is_stopped };
 }
 
-impl<N: Net> Desk<N> {
-    /// The desk of a client with these settings, which is to run these commands; it names its seeds (SDAM, Initial Servers). A
-    /// net that tells has told nothing yet. Where memory is wanting the net comes back as it was.
+impl<N: Net, P: Picker> Desk<N, P> {
+    /// The desk of a client with these settings, which is to run these commands with that picker; it names its seeds (SDAM, Initial
+    /// Servers). A net that tells has told nothing yet, there are at most 16,777,216 commands, and none has a document of more than
+    /// 90 levels. Where memory is wanting net and picker come back as they were.
     pub fn new(
         alloc: Global,
         net: N,
         settings: Settings,
         commands: Rows<Command>,
+        picker: P,
         moment: u64,
-    ) -> Result<Desk<N>, Returned<N>>
+    ) -> Result<Desk<N, P>, Returned<N, P>>
         requires fresh { N.tells → N.history net ≡ [] }
+        requires few { length commands ≤ 16777216 }
+        requires levels { AreShallow commands }
         ensures client { IfOk result (λ d. d.trail.client ≡ record { settings = settings; commands = commands; began = min moment (2 ^ 62) }) }
         ensures now { IfOk result (λ d. d.last ≡ min moment (2 ^ 62)) }
         ensures runs { IfOk result (λ d. d.is_stopped ≡ false) }
         ensures net { IfOk result (λ d. d.net ≡ net) }
-        ensures returned { IfErr result (λ r. r.net ≡ net) }
+        ensures picker { IfOk result (λ d. d.picker ≡ picker) }
+        ensures returned { IfErr result (λ r. (r.net ≡ net) × (r.picker ≡ picker)) }
     {
         let now = moment.min(LAST_MOMENT);
-        let Ok(topology) = seeds_of(alloc, &settings) else {
-            return Err(Returned { net });
+        let Ok(operations) = operations_of(alloc, commands.as_slice()) else {
+            return Err(Returned { net, picker });
         };
-        let Ok(seeds) = copies_of(alloc, settings.hosts.as_slice()) else {
-            return Err(Returned { net });
-        };
-        let wired = WiredTrail::new(alloc, settings, commands, now, net);
-        let mut core = Core::new(alloc, wired, topology, now);
-        match core.name_seeds(alloc, now, seeds.as_slice()) {
-            Ok(()) => Ok(Desk { core }),
-            Err(_) => Err(Returned {
-                net: core.into_net(),
+        match core_of(alloc, net, settings, commands, now) {
+            Ok(core) => Ok(Desk {
+                core,
+                operations,
+                parts: Parts {
+                    in_flight: InFlight::new(alloc),
+                    sessions: LeaseBook::new(alloc),
+                    picker,
+                },
             }),
+            Err(net) => Err(Returned { net, picker }),
         }
     }
 
@@ -121,6 +143,45 @@ impl<N: Net> Desk<N> {
         self.core.wired.requests()
     }
 
+    /// Moves one command as far as it goes without waiting, through at most one look for a server (Server Selection; CMAP; Driver
+    /// Sessions; Retryable Writes). The command is there and is not answered. `moment` is in microseconds; what is appended to the
+    /// trail has the moment of the step, which is no earlier than the last one's. `Answered` says that the command was answered;
+    /// `Wait` that it waits, until a later moment, for a server, a connection or the net; `Again` that its next step goes on at
+    /// once. After `Memory` the desk is stopped.
+    pub fn step_op(
+        &mut self,
+        alloc: Global,
+        op: u32,
+        moment: u64,
+        words: Words,
+    ) -> Result<Sight, Memory>
+        requires runs { self.old.is_stopped ≡ false }
+        requires there { AtCommand self.old.trail.point.state op (λ c. c.is_finished ≡ false) }
+        ensures now { self.new.last ≡ now_of self.old.last moment }
+        ensures sight { IfOk result (MeansStep self.new.trail.client self.new.trail.point.state (now_of self.old.last moment) op) }
+        ensures appends { Appends (Rose (N.faults self.old.net) (N.faults self.new.net)) (now_of self.old.last moment) self.old.trail self.new.trail }
+        ensures ok { OnOk result (self.new.is_stopped ≡ false) }
+        ensures err { OnErr result (self.new.is_stopped ≡ true) }
+        ensures faults { N.faults self.old.net ≤ N.faults self.new.net }
+    {
+        let now = self.core.tick(moment);
+        let at = CommandAt { op, moment: now };
+        let operation = &mut self.operations[op as usize];
+        let sight = self.core.step(alloc, at, operation, &mut self.parts, words);
+        if sight.is_err() {
+            self.core.stop(now);
+        }
+        sight
+    }
+
+    /// The command of the lane that comes next: the first of it that is not answered; None exactly where all are.
+    pub fn next_of(&self, lane: u32) -> Option<u32>
+        requires runs { self.now.is_stopped ≡ false }
+        ensures next { IsNextIn self.now.trail.client self.now.trail.point.state lane result }
+    {
+        next_in(self.core.commands(), self.operations.as_slice(), lane)
+    }
+
     /// Begins, drives or ends the check of one server (Server Monitoring). `moment` is in microseconds; what is appended to the
     /// trail has the moment of the step, which is no earlier than the last one's. `Answered` says that behind the step no check
     /// of the server is due or runs, so too of a number that no server of the topology has; `Wait` that one runs whose answer is
@@ -151,8 +212,9 @@ impl<N: Net> Desk<N> {
         self.core.next_due()
     }
 
-    /// Ends it: its pools are closed, and then all streams. A desk that stopped appends nothing to its trail.
-    pub fn finish(self, moment: u64) -> Finished<N>
+    /// Ends it: farewells are asked of the sessions that were given back (Driver Sessions, endSessions), as far as there is memory
+    /// for them; then its pools are closed. A desk that stopped appends nothing to its trail.
+    pub fn finish(self, alloc: Global, moment: u64) -> Finished<N, P>
         ensures legal { IsLegal self.trail.client (lists_of result.trail) result.trail.steps }
         ensures complete { self.is_stopped ≡ false → IsComplete self.trail.client (lists_of result.trail) result.trail.steps }
         ensures shut { self.is_stopped ≡ false
@@ -161,18 +223,24 @@ impl<N: Net> Desk<N> {
             × (lists_of result.trail ≡ new.lists) × (result.trail.steps ≡ new.steps) }
         ensures settings { result.settings ≡ self.trail.client.settings }
         ensures commands { result.commands ≡ self.trail.client.commands }
+        ensures picker { result.picker ≡ self.picker }
         ensures stopped { result.stopped ≡ self.is_stopped }
         ensures faults { N.faults self.net ≤ N.faults result.net }
     {
-        let Desk { mut core } = self;
+        let Desk {
+            mut core,
+            parts,
+            ..
+        } = self;
         let stopped = core.is_stopped();
         let now = core.tick(moment);
-        let finished = core.finish(now);
+        let finished = core.finish(alloc, &parts.sessions, now);
         Finished {
             net: finished.net,
             trail: finished.parts.trail,
             settings: finished.parts.settings,
             commands: finished.parts.commands,
+            picker: parts.picker,
             stopped,
         }
     }

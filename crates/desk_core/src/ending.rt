@@ -13,8 +13,11 @@ ghost use Rattle.desk_core.specs.Servers.{closing_of, closings};
 use crate::shutting::shut_available;
 use crate::state::Core;
 use desk_trail::Entry;
+use end_sessions::{Ending, end_sessions};
 use net_link::Net;
 use server_state::Server;
+use sess_step::LeaseBook;
+use std::alloc::Global;
 use wired_trail::{Finished, WiredTrail};
 
 /// Closes the pool of a server, with the connections that are available in it, where the server stands in the topology.
@@ -61,10 +64,38 @@ fn shut_pools<N: Net>(wired: &mut WiredTrail<N>, servers: &[Server], moment: u64
     }
 }
 
+/// Asks the farewells of the sessions that were given back, and then closes the pools of the servers that stand in the topology.
+fn end_client<N: Net>(alloc: Global, wired: &mut WiredTrail<N>, ending: Ending<'_>)
+    requires servers { wired.old.trail.point.state.servers ≡ ending.servers.now }
+    requires topology { wired.old.trail.point.state.topology ≡ ending.topology.now }
+    requires sessions { wired.old.trail.point.state.sessions ≡ ending.sessions.now }
+    requires counted { wired.old.trail.point.state.requests ≡ length wired.old.trail.lists.requests }
+    requires goes_on { wired.old.trail.point.state.is_ending ≡ false }
+    requires idle { (x : ℕ) (s : ServerState) → slice_get ending.servers.now x ≡ Some s → s.pool.owed ≡ [] }
+    requires is_open { (x : ℕ) (s : ServerState) → slice_get ending.servers.now x ≡ Some s → s.has_left ≡ false → is_closed s.pool.state.state ≡ false }
+    requires few { length ending.servers.now ≤ 2 ^ 32 }
+    requires closings { ending.closings ≡ closings ending.servers.now }
+    requires room { ending.closings ≤ wired.old.trail.room.steps }
+    requires paid { wired.old.trail.point.owed ≡ [] }
+    requires moment { wired.old.trail.point.moment ≤ ending.moment }
+    ensures paid { wired.new.trail.point.owed ≡ [] }
+    ensures shut { ArePoolsShut wired.new.trail.point.state }
+    ensures faults { N.faults wired.old.net ≤ N.faults wired.new.net }
+    ensures appends { AppendsAside ⊥ ending.entry.moment wired.old.trail wired.new.trail }
+{
+    wired.steps();
+    trail_laws::ending::a_client_that_goes_on_asked_no_farewell();
+    // (where memory is wanting, the farewells that are left are not asked)
+    let _ = end_sessions(alloc, wired, ending);
+    shut_pools(wired, ending.servers, ending.moment);
+}
+
 impl<N: Net> Core<N> {
-    /// Closes the pools, and then all streams. A desk that stopped appends nothing to its trail.
-    pub fn finish(self, moment: u64) -> Finished<N>
+    /// Ends the sessions that were given back, closes the pools, and then all streams. A desk that stopped appends nothing to its
+    /// trail.
+    pub fn finish(self, alloc: Global, sessions: &LeaseBook, moment: u64) -> Finished<N>
         requires ready { self.is_stopped ≡ false → IsReady self moment }
+        requires sessions { self.is_stopped ≡ false → self.trail.point.state.sessions ≡ sessions.now }
         ensures legal { IsLegal self.trail.client (lists_of result.parts.trail) result.parts.trail.steps }
         ensures complete { self.is_stopped ≡ false → IsComplete self.trail.client (lists_of result.parts.trail) result.parts.trail.steps }
         ensures shut { self.is_stopped ≡ false
@@ -76,12 +107,21 @@ impl<N: Net> Core<N> {
     {
         let Core {
             mut wired,
+            topology,
             servers,
+            closings,
             stopped,
             ..
         } = self;
         if !stopped {
-            shut_pools(&mut wired, &servers, moment);
+            let ending = Ending {
+                topology: topology.topology(),
+                servers: &servers,
+                sessions,
+                closings,
+                moment,
+            };
+            end_client(alloc, &mut wired, ending);
         }
         wired.finish()
     }

@@ -1,4 +1,5 @@
-ghost use Rattle.std.specs.Prelude.{◌≡◌, ◌≤◌, ◌+◌, ◌*◌, ◌^◌, ◌++◌, ◌∷◌, ℕ, List, None, false, IfSome, OnOk, length, map};
+ghost use Rattle.std.specs.Prelude.{◌≡◌, ◌≤◌, ◌<◌, ◌+◌, ◌*◌, ◌^◌, ◌++◌, ◌∷◌, ℕ, List, None, false, IfSome, OnOk, length, map};
+ghost use Rattle.std.specs.Option.{option_and_then};
 ghost use Rattle.host_name.specs.Addresses.{Address};
 ghost use Rattle.topo_book.specs.Means.{stands_known};
 ghost use Rattle.topo_book.specs.Offers.{IfAccepted, verdict_of};
@@ -9,11 +10,11 @@ ghost use Rattle.topo_rules.specs.Laws.{listed_by};
 ghost use Rattle.topo_rules.specs.Rules as rules;
 ghost use Rattle.desk_trail.specs.Owed.{Owed};
 ghost use Rattle.desk_trail.specs.Owed as owed;
-ghost use Rattle.desk_trail.specs.States.{ClientState};
+ghost use Rattle.desk_trail.specs.States.{ClientState, number_of};
 ghost use Rattle.desk_trail.specs.Topologies.{Says, asks_of, offered_after};
 ghost use Rattle.desk_core.specs.Answered.{added_by, removed_by};
 ghost use Rattle.desk_core.specs.Appends.{AppendsAside};
-ghost use Rattle.desk_core.specs.Follows.{AreApart, IsNone, IsToOffer, entries_for, owed_by};
+ghost use Rattle.desk_core.specs.Follows.{AreApart, IsNone, IsToOffer, asked_in, entries_for, owed_by};
 ghost use Rattle.desk_core.specs.Kept.{IsWriting};
 ghost use Rattle.desk_core.specs.Rests.{KeepsChecks};
 ghost use Rattle.desk_core.specs.Servers.{IsUntouched};
@@ -23,6 +24,7 @@ use crate::state::Core;
 use desk_trail::{OfferedHow, Room};
 use host_name::Host;
 use net_link::Net;
+use server_state::Server;
 use std::alloc::{AllocError, Global};
 use topo_book::Taken;
 use topo_rules::{Change, TopoEvent};
@@ -64,7 +66,31 @@ fn said_of(taken: &Taken) -> OfferedHow
     }
 }
 
+/// A check of the server of that number is asked for, where there is one (Server Monitoring, requestCheck).
+fn ask_at(servers: &mut Vec<Server>, moment: u64, host: Option<u32>)
+    requires moment { moment ≤ 2 ^ 62 }
+    requires within { IfSome host (λ x. x < length servers.old.items) }
+    ensures asked { servers.new.items ≡ asked_in moment host servers.old.items }
+{
+    if let Some(number) = host {
+        let server = &mut servers[number as usize];
+        server.ask(moment);
+    }
+}
+
 impl<N: Net> Core<N> {
+    /// The server of which an event asks for a check, where it is taken in: that of a command that was refused (SDAM, Error
+    /// handling: request an immediate check).
+    fn asked_by(&self, event: &TopoEvent) -> Option<u32>
+        requires { self.now.is_stopped ≡ false }
+        ensures { result ≡ option_and_then (number_of self.now.trail.point.state) (asks_of event.now) }
+    {
+        match event {
+            TopoEvent::Refused { host, .. } => self.number_of(host),
+            TopoEvent::Reply { .. } | TopoEvent::Broken { .. } => None,
+        }
+    }
+
     /// Names the hosts, in this order.
     pub fn name_all(&mut self, alloc: Global, moment: u64, hosts: &[Host]) -> Result<(), Memory>
         requires writing { (rest : List Owed) × (n : ℕ)
@@ -108,10 +134,10 @@ impl<N: Net> Core<N> {
         Ok(())
     }
 
-    /// Offers an event, which must come next, to the topology, and writes all that must follow it.
+    /// Offers an event, which must come next, to the topology, and writes all that must follow it. A check of the server is asked
+    /// for where a refused command was taken in (SDAM, Error handling).
     pub fn offer(&mut self, alloc: Global, moment: u64, event: TopoEvent) -> Result<(), Memory>
         requires writing { (first : Owed) × (rest : List Owed) × IsWriting self.old moment 0 (first ∷ rest) × IsToOffer first event }
-        requires of_check { asks_of event ≡ None }
         requires count { length self.old.trail.lists.names + length (listed_by event) ≤ 2 ^ 32 }
         ensures ok { (first : Owed) (rest : List Owed) → IsWriting self.old moment 0 (first ∷ rest) → OnOk result (IsWriting self.new moment 0 rest) }
         ensures checks { OnOk result (KeepsChecks (offered_after moment event self.old.trail.point.state) self.new.trail.point.state) }
@@ -121,6 +147,7 @@ impl<N: Net> Core<N> {
         ensures appends { AppendsAside ⊥ moment self.old.trail self.new.trail }
     {
         let generation = self.generation_of(event.host());
+        let asked = self.asked_by(&event);
         let copy = event.copy(alloc)?;
         let taken = self.topology.offer(alloc, copy, generation)?;
         let Some(room) = room_for(self.closings, &taken) else {
@@ -135,7 +162,10 @@ impl<N: Net> Core<N> {
         topo_rules::laws::nothing_else_stands();
         self.wired.offer(moment, event, said_of(&taken));
         match taken {
-            Taken::Accepted(change) => self.follow(alloc, moment, &change),
+            Taken::Accepted(change) => {
+                ask_at(&mut self.servers, moment, asked);
+                self.follow(alloc, moment, &change)
+            }
             _ => Ok(()),
         }
     }

@@ -1,13 +1,17 @@
-ghost use Rattle.std.specs.Prelude.{◌≡◌, ◌≤◌, ◌^◌, [], false, length, IfOk, OnOk};
+ghost use Rattle.std.specs.Prelude.{◌≡◌, ◌≤◌, ◌^◌, [], false, length, map, IfErr, IfOk, OnOk};
+ghost use Rattle.sess_book.specs.Sessions.{no_sessions};
 ghost use Rattle.topo_rules.specs.Rules.{opened};
 ghost use Rattle.desk_trail.specs.Legal.{beginning};
+ghost use Rattle.desk_trail.specs.States.{fresh_command};
 ghost use Rattle.desk_trail.specs.Written.{no_lists};
 ghost use Rattle.desk_core.specs.Appends.{AppendsAside};
 ghost use Rattle.desk_core.specs.Kept.{IsReady};
 
 use crate::Memory;
+use crate::operation::Operation;
 use crate::state::Core;
 use bson_doc::Rows;
+use cmd_build::Command;
 use conn_uri::Settings;
 use desk_trail::Room;
 use host_name::Host;
@@ -19,7 +23,7 @@ use topo_rules::Topology;
 use wired_trail::WiredTrail;
 
 /// The topology of the seeds (SDAM, Initial Servers).
-pub fn seeds_of(alloc: Global, settings: &Settings) -> Result<Topology, Memory>
+fn seeds_of(alloc: Global, settings: &Settings) -> Result<Topology, Memory>
     ensures { IfOk result (λ topology. topology ≡ opened settings.now.hosts settings.now.set_name settings.now.direct) }
 {
     let name = settings.set_name.as_ref().map(|name| name.as_str());
@@ -27,7 +31,7 @@ pub fn seeds_of(alloc: Global, settings: &Settings) -> Result<Topology, Memory>
 }
 
 /// Copies of the seeds, which are named while the desk owns its settings.
-pub fn copies_of(alloc: Global, hosts: &[Host]) -> Result<Rows<Host>, Memory>
+fn copies_of(alloc: Global, hosts: &[Host]) -> Result<Rows<Host>, Memory>
     ensures { IfOk result (λ copies. copies ≡ hosts.now) }
 {
     let mut copies = Rows::new(alloc);
@@ -37,6 +41,48 @@ pub fn copies_of(alloc: Global, hosts: &[Host]) -> Result<Rows<Host>, Memory>
         copies.push(copy)?;
     }
     Ok(copies)
+}
+
+/// The commands, for each of which nothing was done.
+pub fn operations_of(alloc: Global, commands: &[Command]) -> Result<Vec<Operation>, Memory>
+    ensures { IfOk result (λ operations. operations.items ≡ map fresh_command commands.now) }
+{
+    let mut operations = Vec::new(alloc);
+    for command in commands {
+        operations.push(Operation::new(command))?;
+    }
+    Ok(operations)
+}
+
+/// What a client has once its seeds are named. Where memory is wanting the net comes back as it was.
+pub fn core_of<N: Net>(
+    alloc: Global,
+    net: N,
+    settings: Settings,
+    commands: Rows<Command>,
+    moment: u64,
+) -> Result<Core<N>, N>
+    requires moment { moment ≤ 2 ^ 62 }
+    ensures client { IfOk result (λ d. d.trail.client ≡ record { settings = settings; commands = commands; began = moment }) }
+    ensures ready { IfOk result (λ d. IsReady d moment) }
+    ensures net { IfOk result (λ d. d.net ≡ net) }
+    ensures commands { IfOk result (λ d. d.trail.point.state.commands ≡ map fresh_command commands) }
+    ensures sessions { IfOk result (λ d. d.trail.point.state.sessions ≡ no_sessions) }
+    ensures ids { IfOk result (λ d. d.trail.lists.sessions ≡ []) }
+    ensures returned { IfErr result (λ n. n ≡ net) }
+{
+    let Ok(topology) = seeds_of(alloc, &settings) else {
+        return Err(net);
+    };
+    let Ok(seeds) = copies_of(alloc, settings.hosts.as_slice()) else {
+        return Err(net);
+    };
+    let wired = WiredTrail::new(alloc, settings, commands, moment, net);
+    let mut core = Core::new(alloc, wired, topology, moment);
+    match core.name_seeds(alloc, moment, seeds.as_slice()) {
+        Ok(()) => Ok(core),
+        Err(_) => Err(core.into_net()),
+    }
 }
 
 impl<N: Net> Core<N> {

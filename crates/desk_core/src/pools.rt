@@ -15,7 +15,7 @@ use host_name::Host;
 use net_link::Net;
 
 /// Entries are fewer than 2^64.
-fn few(steps: &[Step])
+pub fn few(steps: &[Step])
     ensures { length steps.now < 2 ^ 64 }
 {}
 

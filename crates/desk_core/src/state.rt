@@ -2,6 +2,7 @@ ghost use Rattle.std.specs.Prelude.{◌≡◌, false};
 ghost use Rattle.desk_trail.specs.States.{number_of};
 
 use crate::naming::number_from;
+use cmd_build::Command;
 use host_name::Host;
 use net_link::Net;
 use server_state::Server;
@@ -46,6 +47,13 @@ impl<N: Net> Model for Core<N> {
 }
 
 impl<N: Net> Core<N> {
+    /// The commands that the client is to run, by their numbers.
+    pub fn commands(&self) -> &[Command]
+        ensures { result.now ≡ self.now.trail.client.commands }
+    {
+        self.wired.commands()
+    }
+
     /// The number of the server that stands in the topology with that address.
     pub fn number_of(&self, host: &Host) -> Option<u32>
         requires { self.now.is_stopped ≡ false }

@@ -34,7 +34,7 @@ impl<N: Net> Core<N> {
     }
 
     /// Whether a check of the server is due.
-    fn is_due(&self, moment: u64, host: u32) -> bool
+    pub fn is_due(&self, moment: u64, host: u32) -> bool
         requires { self.now.is_stopped ≡ false }
         ensures yes { result ≡ true → AtServer self.now.trail.point.state host (IsDue moment) }
         ensures no { result ≡ false → AtServer self.now.trail.point.state host (IsDue moment) → ⊥ }

@@ -22,8 +22,6 @@ pub mod laws;
 mod request;
 mod room;
 mod step;
-#[cfg(test)]
-mod tests;
 mod trail;
 mod writer;
 

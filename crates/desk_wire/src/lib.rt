@@ -23,8 +23,6 @@
 mod answers;
 mod exchanging;
 pub mod laws;
-#[cfg(test)]
-mod tests;
 mod wire;
 
 pub use answers::{Pulled, Pushed};

@@ -12,9 +12,6 @@ ghost use Rattle.desk_wire.specs.Pull.{pull_shuts, Pulls};
 ghost use Rattle.desk_wire.specs.State.{opened};
 ghost use Rattle.desk_wire.specs.Steps.{after_write, read_shuts, Judges};
 
-#[cfg(test)]
-mod tests;
-
 use crate::{Pulled, Pushed};
 use bson_doc::{Buffer, Bytes, Rows};
 use msg_wire::{Message, MsgFault, read};
@@ -81,6 +78,13 @@ impl Wire {
     {
         self.queued = bytes;
         self.sent = 0;
+    }
+
+    /// Whether bytes that were queued are unsent.
+    pub fn has_unsent(&self) -> bool
+        ensures { result ≡ nat_lt 0 (length self.now.unsent) }
+    {
+        self.sent < self.queued.len()
     }
 
     /// Sends as many of the unsent bytes as the net takes now, in order.
@@ -154,13 +158,6 @@ impl Wire {
             Pushed::Fault => Pulled::Fault,
             Pushed::Memory => Pulled::Memory,
         }
-    }
-
-    /// Whether bytes are unsent.
-    fn has_unsent(&self) -> bool
-        ensures { result ≡ nat_lt 0 (length self.now.unsent) }
-    {
-        self.sent < self.queued.len()
     }
 
     /// One write of the unsent bytes.

@@ -10,8 +10,6 @@ mod event;
 mod hooks;
 pub mod laws;
 mod listener;
-#[cfg(test)]
-mod tests;
 
 pub use event::{Event, OutWhy};
 pub use hooks::{Hooks, HooksOf, deliver};

@@ -14,8 +14,6 @@
 
 pub mod laws;
 mod moments;
-#[cfg(test)]
-mod tests;
 mod timed;
 
 pub use laws::HasJudge;

@@ -21,8 +21,6 @@ mod readers;
 mod server_description;
 mod server_kind;
 mod tag;
-#[cfg(test)]
-mod tests;
 mod versions;
 
 pub use defaults::default_unknown;

@@ -11,8 +11,6 @@
 mod fault;
 mod host;
 mod parse;
-#[cfg(test)]
-mod tests;
 
 pub use fault::HostFault;
 pub use host::Host;

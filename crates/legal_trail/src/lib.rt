@@ -6,8 +6,6 @@
 #![tactic(auto)]
 
 mod parts;
-#[cfg(test)]
-mod tests;
 mod trail;
 
 pub use parts::Parts;

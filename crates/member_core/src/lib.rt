@@ -25,8 +25,6 @@ mod member;
 mod places;
 mod request;
 mod sizes;
-#[cfg(test)]
-mod tests;
 mod write_reply;
 
 pub use answering::Answered;

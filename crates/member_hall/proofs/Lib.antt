@@ -1,5 +1,14 @@
 pub mod Answering
 pub mod Bytes
+pub mod Calling
+pub mod Fits
 pub mod Handling
 pub mod Honesty
+pub mod Lines
+pub mod Makings
+pub mod Moves
+pub mod Peers
+pub mod Plans
 pub mod Playing
+pub mod Scenes
+pub mod Serving

@@ -4,6 +4,7 @@ use Rattle.std.specs.Prelude.{◌≡◌, ℕ, Bool, true, false, List, [], Optio
 use Rattle.member_core.specs.Members.{MemberState}
 use Rattle.net_link.specs.declared.event.NetEvent.{NetEvent}
 use Rattle.member_hall.specs.declared.act.Planned.{Planned}
+use Rattle.member_hall.specs.declared.act.Act.TheVariants as act
 use Rattle.member_hall.specs.declared.rule.Rule.{Rule}
 use Rattle.member_hall.specs.Lines.{LineState, inbox_at}
 
@@ -43,6 +44,13 @@ no_line = record { member = 0; count = 0; rest = []; answers = []; late = None; 
 -- The member at a place.
 abbrev pub peer_at : List PeerState → ℕ → PeerState
 peer_at peers m = slice_index_or peers m no_peer
+
+-- The act at a place of a plan.
+abbrev pub no_act : Planned
+no_act = record { turn = 0; act = act.Alive 0 }
+
+abbrev pub plan_at : List Planned → ℕ → Planned
+plan_at plan place = slice_index_or plan place no_act
 
 -- The stream of a number.
 abbrev pub line_at : List LineState → ℕ → LineState

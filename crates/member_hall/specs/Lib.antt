@@ -1,8 +1,12 @@
 pub mod Acts
+pub mod Calls
 pub mod Halls
 pub mod Honest
+pub mod Inside
 pub mod Lines
 pub mod Making
+pub mod Plans
 pub mod Playing
 pub mod Requests
+pub mod Streams
 pub mod Turns

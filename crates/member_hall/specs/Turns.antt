@@ -1,6 +1,6 @@
 -- The start of a turn, and what is done with the bytes that a stream got.
 -- own: when members that are played do what they do.
-use Rattle.std.specs.Prelude.{ℕ, zero, suc, ◌==◌, Bool, true, false, not, ◌&&◌, length, filter, fold, Option, None, Some, nat_le, if◌then◌else◌}
+use Rattle.std.specs.Prelude.{◌≡◌, ℕ, zero, suc, ◌==◌, Bool, true, false, not, ◌&&◌, length, filter, fold, Option, None, Some, nat_le, if◌then◌else◌}
 use Rattle.net_link.specs.Causes.{next_count}
 use Rattle.msg_wire.specs.Messages.{messages}
 use Rattle.msg_wire.specs.Reading.{flaw}
@@ -62,6 +62,15 @@ checked_on stream h = if not (line_at h.lines stream).ended && is_fault (flaw (l
 -- All whole requests that a stream got come to its member, one after another, until the member ends the stream.
 unfoldable pub served : ℕ → HallState → HallState
 served stream h = checked_on stream (fold (next_on stream) h (messages (line_at h.lines stream).rest))
+
+-- How many bytes a stream got behind the requests that came to its member.
+abbrev pub rest_length : HallState → ℕ → ℕ
+rest_length h stream = length (line_at h.lines stream).rest
+
+-- Behind a part of it: what is left to do is the same, or nothing is.
+abbrev pub ServesOn : (more : Bool) → ℕ → HallState → HallState → Type 0
+ServesOn true stream old new = served stream new ≡ served stream old
+ServesOn false stream old new = new ≡ served stream old
 
 -- ---- The start of a turn
 

@@ -1,6 +1,8 @@
-ghost use Rattle.std.specs.Prelude.{◌≡◌, ◌<◌, [], length, drop, slice_get, IfOk, OnOk, OnErr};
+ghost use Rattle.std.specs.Prelude.{◌≡◌, ◌<◌, [], length, drop, slice_get, Some, None, IfOk, OnOk, OnErr};
+ghost use Rattle.member_core.specs.Members.{with_election, with_log};
 ghost use Rattle.member_core.specs.Sizes.{IsWithin};
 ghost use Rattle.member_hall.specs.Acts.{met};
+ghost use Rattle.member_hall.specs.Calls.{takes_dials as reached_by};
 ghost use Rattle.member_hall.specs.Making.{peer_of};
 ghost use Rattle.member_hall.specs.Requests.{due_by};
 
@@ -58,6 +60,13 @@ impl Peer {
         })
     }
 
+    /// Whether a dial of the address reaches it.
+    pub fn takes_dials(&self, address: &str) -> bool
+        ensures { result ≡ reached_by address.now self.now }
+    {
+        !self.dead && self.address.as_str() == address
+    }
+
     /// An act that is no election and no following.
     pub fn meet(&mut self, act: Act) -> Result<(), Memory>
         ensures ok { OnOk result (self.new ≡ met act self.old) }
@@ -85,6 +94,30 @@ impl Peer {
             Act::Follow { .. } => {}
         }
         Ok(())
+    }
+
+    /// It is elected again, by the election of that number.
+    pub fn stay_elected(&mut self, number: u64) -> Result<(), Memory>
+        ensures ok { OnOk result (self.new ≡ record self.old { member = with_election self.old.member None number }) }
+        ensures err { OnErr result (self.new ≡ self.old) }
+    {
+        self.member.elect(self.alloc, None, number)
+    }
+
+    /// It is elected behind another member, by the election of that number.
+    pub fn elect_behind(&mut self, last: &Peer, number: u64) -> Result<(), Memory>
+        ensures ok { OnOk result (self.new ≡ record self.old { member = with_election self.old.member (Some last.now.member.log) number }) }
+        ensures err { OnErr result (self.new ≡ self.old) }
+    {
+        self.member.elect(self.alloc, Some(&last.member), number)
+    }
+
+    /// It follows another member.
+    pub fn follow(&mut self, other: &Peer) -> Result<(), Memory>
+        ensures ok { OnOk result (self.new ≡ record self.old { member = with_log self.old.member other.now.member.log }) }
+        ensures err { OnErr result (self.new ≡ self.old) }
+    {
+        self.member.follow(self.alloc, &other.member)
     }
 
     /// What the next write request meets, if anything.

@@ -29,8 +29,6 @@ mod section;
 mod sections;
 mod sequence;
 mod sequences;
-#[cfg(test)]
-mod tests;
 mod writing;
 
 pub use fault::MsgFault;

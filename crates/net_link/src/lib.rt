@@ -37,8 +37,6 @@ mod sink;
 mod slice_source;
 mod source;
 mod stream_plan;
-#[cfg(test)]
-mod tests;
 mod tick_clock;
 mod turns;
 mod vec_sink;

@@ -1,11 +1,12 @@
 ghost use Rattle.std.specs.Prelude.{◌≡◌, ℕ, ◌+◌, ◌-◌, ◌^◌, ◌<◌, ◌≤◌, true, false, is_some};
-ghost use Rattle.pool_book.specs.Pool.{Pool, fresh_pool, ticket_of, held_of, is_closed, is_paused};
+ghost use Rattle.pool_book.specs.Pool.{Pool, fresh_pool, ticket_of, held_of, is_closed, is_paused, is_perished};
 ghost use Rattle.pool_book.specs.Entries as entry;
 ghost use Rattle.pool_book.specs.Judge.{Goes};
 
 use crate::available_list::AvailableList;
 use crate::held_list::HeldList;
 use crate::last_rows::LastRows;
+use crate::rules::is_stale;
 use crate::ticket_line::TicketLine;
 use crate::{Available, Held, PoolRules, PoolState, Ticket};
 use std::alloc::Global;
@@ -110,6 +111,15 @@ impl PoolBook {
         ensures { result.now ≡ self.now.available }
     {
         self.available.as_slice()
+    }
+
+    /// Whether a connection that is available has perished at a moment: the pool was cleared since it was dialled, or it has
+    /// been available for longer than the rules allow (CMAP, a connection is perished).
+    pub fn is_perished(&self, available: &Available, moment: u64) -> bool
+        ensures { result ≡ is_perished self.now moment available.now }
+    {
+        is_stale(self.generation, available.generation)
+            || self.rules.is_idle(available.since, moment)
     }
 
     /// Whether the ticket is in the line.

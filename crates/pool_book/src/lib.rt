@@ -26,8 +26,6 @@ mod last_rows;
 pub mod laws;
 mod rules;
 mod state;
-#[cfg(test)]
-mod tests;
 mod ticket;
 mod ticket_line;
 

@@ -13,8 +13,6 @@ pub mod laws;
 mod mode;
 mod read_pref;
 mod tag;
-#[cfg(test)]
-mod tests;
 
 pub use fault::TagsOnPrimary;
 pub use mode::Mode;

@@ -9,8 +9,6 @@
 
 mod laws;
 mod mean;
-#[cfg(test)]
-mod tests;
 
 pub use laws::next_extends_mean;
 pub use mean::next;

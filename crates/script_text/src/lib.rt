@@ -39,8 +39,6 @@ mod reads;
 mod script;
 mod stop;
 mod taking;
-#[cfg(test)]
-mod tests;
 mod values;
 
 pub use fault::{ScriptFault, ScriptKind, ScriptRead};

@@ -24,8 +24,6 @@ mod preparing;
 mod sieve;
 mod suitable;
 mod tags;
-#[cfg(test)]
-mod tests;
 mod window;
 
 pub use candidate::Candidate;

@@ -1,7 +1,7 @@
 ghost use Rattle.std.specs.Prelude.{◌≡◌, ◌≤◌, ◌^◌, ◌&&◌, ◌==◌, [], find, not, false, is_some};
 ghost use Rattle.std.specs.Option.{option_map};
 ghost use Rattle.host_name.specs.Addresses.{is_same_address};
-ghost use Rattle.pool_book.specs.Pool.{held_of, is_closed, is_paused, ticket_of};
+ghost use Rattle.pool_book.specs.Pool.{held_of, is_closed, is_paused, is_perished, ticket_of};
 ghost use Rattle.watch_step.specs.Checks.{IsInRange};
 ghost use Rattle.desk_trail.specs.Clients.{Client, beat, pool_rules};
 ghost use Rattle.desk_trail.specs.States.{fresh_server, stream_of};
@@ -121,6 +121,13 @@ impl Server {
         ensures available { result.now ≡ self.now.pool.state.available }
     {
         self.pool.available()
+    }
+
+    /// Whether a connection of its pool that is available has perished at a moment (CMAP, a connection is perished).
+    pub fn is_perished(&self, available: &Available, moment: u64) -> bool
+        ensures perished { result ≡ is_perished self.now.pool.state moment available.now }
+    {
+        self.pool.is_perished(available, moment)
     }
 
     /// The number of the next ticket of its pool.

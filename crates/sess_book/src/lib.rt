@@ -17,8 +17,6 @@ mod lease;
 mod made;
 mod rules;
 mod session;
-#[cfg(test)]
-mod tests;
 
 pub use book::SessBook;
 pub use ids::fresh_id;

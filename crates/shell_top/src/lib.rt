@@ -21,8 +21,6 @@ mod sending;
 mod shoot;
 mod shot;
 mod status;
-#[cfg(test)]
-mod tests;
 mod words;
 
 pub use running::run;

@@ -7,7 +7,5 @@
 
 mod gossip;
 pub mod laws;
-#[cfg(test)]
-mod tests;
 
 pub use gossip::TimeGossip;

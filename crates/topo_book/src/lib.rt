@@ -14,8 +14,6 @@
 mod book;
 mod laws;
 mod taken;
-#[cfg(test)]
-mod tests;
 mod verdict;
 
 pub use book::TopoBook;

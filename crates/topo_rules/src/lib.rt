@@ -28,8 +28,6 @@ mod same;
 mod served;
 mod servers;
 mod table;
-#[cfg(test)]
-mod tests;
 mod texts;
 mod topology;
 

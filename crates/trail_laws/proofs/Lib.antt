@@ -6,3 +6,4 @@ mod CommandLemmas
 mod SelectionLemmas
 mod WaitLemmas
 mod SessionLemmas
+mod FarewellLemmas

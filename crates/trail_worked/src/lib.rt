@@ -15,6 +15,4 @@ pub mod checks;
 pub mod commands;
 pub mod ending;
 pub mod pools;
-#[cfg(test)]
-mod tests;
 pub mod writing;

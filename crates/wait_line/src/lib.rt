@@ -7,8 +7,6 @@
 //! A line knows neither time nor threads: who waits asks again.
 #![tactic(auto)]
 
-#[cfg(test)]
-mod tests;
 mod wait_line;
 
 pub use wait_line::WaitLine;

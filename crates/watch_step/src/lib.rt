@@ -10,8 +10,6 @@
 
 mod check_end;
 pub mod laws;
-#[cfg(test)]
-mod tests;
 mod watch;
 
 pub use check_end::CheckEnd;

@@ -6,7 +6,9 @@ use Rattle.std.proofs.lemmas.Bool.Decides.{eqb_tells}
 use Rattle.std.proofs.lemmas.List.Elements.{All-append, All-cons, All-tail}
 use Rattle.net_link.specs.Streams.{KeepsOpenBut}
 use Rattle.desk_wire.specs.declared.answers.Pulled.{Pulled}
+use Rattle.desk_wire.specs.declared.answers.Pushed.{Pushed}
 use Rattle.desk_wire.specs.Pull.{pull_shuts}
+use Rattle.desk_wire.specs.Push.{push_shuts}
 use Rattle.desk_trail.specs.declared.entry.Entry.{Entry}
 use Rattle.desk_trail.specs.declared.room.Room.{Room}
 use Rattle.desk_trail.specs.Checks.{IsNew, kept_at}
@@ -93,6 +95,26 @@ IsWired-turned old live before next stream answer lines moved streams w le other
     (λ l now.
     let was = w.each stream there.line there.there in
     let is : IsSameBut answer there.line l = rw (there.there, now) at same in
+    record {
+      is_open = opens stream was.is_open;
+      own = ap (λ x. x.wire.stream) is ∙ was.own;
+      going = ap (λ x. x.wire.is_shut) is ∙ goes;
+    })
+
+-- a line behind a push of its wire
+abbrev pub IsSentBy : Pushed → Line → Line → Type 0
+IsSentBy answer l n = n ≡ record l { wire = record l.wire { unsent = n.wire.unsent; is_shut = push_shuts answer } }
+
+-- the line behind a push behind which its stream is used on
+pub IsWired-pushed : (old live : ℕ → Type 0) (before next : ℕ) (stream : ℕ) (answer : Pushed) (lines moved : Lines) (streams : List ℕ) → IsWired old before lines streams → before ≤ next →
+    KeepsOthers stream lines moved → ((s : ℕ) → old s → live s) → IsThere lines stream →
+    IfSome (line_at lines stream) (λ l. IfSome (line_at moved stream) (λ n. IsSentBy answer l n)) →
+    push_shuts answer ≡ false → IsWired live next moved streams
+IsWired-pushed old live before next stream answer lines moved streams w le others opens there same goes =
+    IsWired-moved old live before next stream lines moved streams w le others (λ s _ o. opens s o)
+    (λ l now.
+    let was = w.each stream there.line there.there in
+    let is : IsSentBy answer there.line l = rw (there.there, now) at same in
     record {
       is_open = opens stream was.is_open;
       own = ap (λ x. x.wire.stream) is ∙ was.own;

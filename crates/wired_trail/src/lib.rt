@@ -12,8 +12,6 @@
 mod finished;
 mod lines;
 mod stream_use;
-#[cfg(test)]
-mod tests;
 mod trail;
 
 pub use finished::Finished;

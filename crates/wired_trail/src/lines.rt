@@ -1,15 +1,16 @@
-ghost use Rattle.std.specs.Prelude.{◌≡◌, ◌+◌, false, [], None, Some, length, OnErr, OnOk, IfNone, IfSome, IsSome};
+ghost use Rattle.std.specs.Prelude.{◌≡◌, ◌+◌, true, false, [], None, Some, length, OnErr, OnOk, IfNone, IfSome, IsSome};
 ghost use Rattle.std.specs.Option.{option_map};
 ghost use Rattle.net_link.specs.Causes.{HasCause};
-ghost use Rattle.net_link.specs.Keeps.{Keeps, all_but_inbox_of};
+ghost use Rattle.net_link.specs.Keeps.{Keeps, all, all_but_inbox_of};
 ghost use Rattle.desk_wire.specs.Exchange.{Exchanges, MustWait};
 ghost use Rattle.desk_wire.specs.Pull.{pull_shuts};
+ghost use Rattle.desk_wire.specs.Push.{Pushes, push_shuts};
 ghost use Rattle.desk_wire.specs.State.{State};
 ghost use Rattle.wired_trail.specs.Lines.{Begins, IsIdle, IsThere, KeepsOthers, line_at, with_unsent};
 
 use crate::{Memory, StreamUse};
 use bson_doc::Bytes;
-use desk_wire::{Pulled, Wire};
+use desk_wire::{Pulled, Pushed, Wire};
 use net_link::Net;
 use std::alloc::Global;
 use std::collections::BTreeMap;
@@ -54,6 +55,17 @@ impl Lines {
         match self.lines.get(&stream) {
             Some(line) => Some(line.is_for),
             None => None,
+        }
+    }
+
+    /// Whether a stream is in use, and all that was queued on it is sent.
+    pub(crate) fn is_idle(&self, stream: u64) -> bool
+        ensures yes { result ≡ true → IsIdle self.now stream }
+        ensures no { result ≡ false → IsIdle self.now stream → ⊥ }
+    {
+        match self.lines.get(&stream) {
+            Some(line) => !line.wire.has_unsent(),
+            None => false,
         }
     }
 
@@ -110,6 +122,28 @@ impl Lines {
         match self.lines.get_mut(&stream) {
             Some(line) => line.wire.turn(alloc, net),
             None => Pulled::Memory,
+        }
+    }
+
+    /// Sends on a stream what the net takes now.
+    pub(crate) fn push<N: Net>(&mut self, net: &mut N, stream: u64) -> Pushed
+        requires there { IsThere self.old stream }
+        requires own { IfSome (line_at self.old stream) (λ line. line.wire.stream ≡ stream) }
+        requires going { IfSome (line_at self.old stream) (λ line. line.wire.is_shut ≡ false) }
+        requires is_open { N.is_open net.old stream }
+
+        ensures same { IfSome (line_at self.old stream) (λ before. IfSome (line_at self.new stream) (λ now.
+            now ≡ record before { wire = record before.wire { unsent = now.wire.unsent; is_shut = push_shuts result } })) }
+        ensures sends { IfSome (line_at self.old stream) (λ before. IfSome (line_at self.new stream) (λ now.
+            Pushes N.tells stream before.wire.unsent now.wire.unsent (N.history net.old) (N.history net.new) result)) }
+        ensures still { IsSome (line_at self.new stream) }
+        ensures others { KeepsOthers stream self.old self.new }
+        ensures cause { HasCause (N.faults net.old) (N.faults net.new) (result ≡ Pushed.Fault) }
+        ensures keeps { Keeps all N.tells N.is_open N.next N.inbox N.has_ended net.old net.new }
+    {
+        match self.lines.get_mut(&stream) {
+            Some(line) => line.wire.push(net),
+            None => Pushed::Memory,
         }
     }
 

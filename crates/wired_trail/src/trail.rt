@@ -1,4 +1,4 @@
-ghost use Rattle.std.specs.Prelude.{◌≡◌, ◌≤◌, ◌<◌, ◌^◌, ℕ, true, None, Some, [], ◌∷◌, ◌++◌, length, OnOk, IfSome};
+ghost use Rattle.std.specs.Prelude.{◌≡◌, ◌≤◌, ◌<◌, ◌^◌, ℕ, true, false, None, Some, [], ◌∷◌, ◌++◌, length, OnOk, IfSome};
 ghost use Rattle.std.specs.Option.{option_map};
 ghost use Rattle.net_link.specs.Calls.{IfStream};
 ghost use Rattle.net_link.specs.Causes.{HasCause};
@@ -13,7 +13,7 @@ ghost use Rattle.desk_wire.specs.Pull.{pull_shuts};
 ghost use Rattle.legal_trail.specs.Recorded.{Adds};
 ghost use Rattle.wired_trail.specs.Lines.{BeginsBy, IsIdle, IsThere, KeepsOthers, line_at, with_unsent};
 ghost use Rattle.wired_trail.specs.Standing.{UsesGiven};
-ghost use Rattle.wired_trail.specs.Turns.{Turns};
+ghost use Rattle.wired_trail.specs.Turns.{Sends, Turns};
 
 use crate::lines::Lines;
 use crate::{Finished, Memory, StreamUse};
@@ -21,7 +21,7 @@ use bson_doc::{Bytes, Lsid, Rows};
 use cmd_build::Command;
 use conn_uri::Settings;
 use desk_trail::{Entry, OfferedHow, Request, Room, Step};
-use desk_wire::Pulled;
+use desk_wire::{Pulled, Pushed};
 use host_name::Host;
 use legal_trail::LegalTrail;
 use net_link::{Dialed, Net};
@@ -131,6 +131,14 @@ impl<N: Net> WiredTrail<N> {
         ensures value { result ≡ option_map (λ line. line.is_for) (line_at self.now.lines stream) }
     {
         self.lines.use_of(stream)
+    }
+
+    /// Whether a stream is in use, and all that was queued on it is sent.
+    pub fn is_idle(&self, stream: u64) -> bool
+        ensures yes { result ≡ true → IsIdle self.now.lines stream }
+        ensures no { result ≡ false → IsIdle self.now.lines stream → ⊥ }
+    {
+        self.lines.is_idle(stream)
     }
 
     /// Takes room for so much more. After its Ok as much can be appended without memory. Nothing that is written changes, and
@@ -250,6 +258,23 @@ impl<N: Net> WiredTrail<N> {
     {
         let answer = self.lines.turn(alloc, &mut self.net, stream);
         if is_over(&answer) {
+            self.lines.take_out(stream);
+            self.net.close(stream);
+        }
+        answer
+    }
+
+    /// Sends on a stream what the net takes now, and reads nothing. A stream that failed is closed.
+    pub fn push(&mut self, stream: u64) -> Pushed
+        requires there { IsThere self.old.lines stream }
+        ensures trail { self.new.trail ≡ self.old.trail }
+        ensures sends { IfSome (line_at self.old.lines stream) (λ before. Sends N.tells stream result before (line_at self.new.lines stream)
+            (N.history self.old.net) (N.history self.new.net)) }
+        ensures others { KeepsOthers stream self.old.lines self.new.lines }
+        ensures cause { HasCause (N.faults self.old.net) (N.faults self.new.net) (result ≡ Pushed.Fault) }
+    {
+        let answer = self.lines.push(&mut self.net, stream);
+        if answer == Pushed::Fault {
             self.lines.take_out(stream);
             self.net.close(stream);
         }

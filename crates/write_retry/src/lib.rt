@@ -15,8 +15,6 @@ mod events;
 pub mod laws;
 mod machine;
 mod outcome;
-#[cfg(test)]
-mod tests;
 
 pub use attempt_end::AttemptEnd;
 pub use events::{Next, OpEvent, Unsent};

@@ -12,7 +12,7 @@ use Rattle.desk_core.proofs.state.Core.begin_check.Goals as goal
 
 pub begin_on-requires-clause-line : goal.begin_on-requires-clause-line
 begin_on-requires-clause-line g c =
-    let ready = rw (← c.self.view_is) at c.requires.ready in
+    let ready = rw (← c.self.view_is) at c.requires.begins.1 in
     let due = rw (← c.self.view_is) at c.requires.due in
     let h = c.self.invariant.leads ready.runs in
     let there : slice_get c.self.inside.servers.items c.args.host ≡ Some due.0 = ap (λ (s : ClientState). slice_get s.servers c.args.host) (sym h.state) ∙ due.1 in
@@ -28,7 +28,7 @@ returns-in_err-stream-in-None-clause-appends g c =
 
 pub begin_on-requires-in-Some-2-clause-due : goal.begin_on-requires-in-Some-2-clause-due
 begin_on-requires-in-Some-2-clause-due g c =
-    let ready = rw (← c.self.view_is) at c.requires.ready in
+    let ready = rw (← c.self.view_is) at c.requires.begins.1 in
     let due = rw (← c.self.view_is) at c.requires.due in
     let h = c.self.invariant.leads ready.runs in
     let there : slice_get c.self.inside.servers.items c.args.host ≡ Some due.0 = ap (λ (s : ClientState). slice_get s.servers c.args.host) (sym h.state) ∙ due.1 in
@@ -49,7 +49,7 @@ begin_on-requires-in-Some-2-clause-due g c =
 
 pub end_undialled-requires-clause-due : goal.end_undialled-requires-clause-due
 end_undialled-requires-clause-due g c =
-    let ready = rw (← c.self.view_is) at c.requires.ready in
+    let ready = rw (← c.self.view_is) at c.requires.begins.1 in
     let due = rw (← c.self.view_is) at c.requires.due in
     let h = c.self.invariant.leads ready.runs in
     let there : slice_get c.self.inside.servers.items c.args.host ≡ Some due.0 = ap (λ (s : ClientState). slice_get s.servers c.args.host) (sym h.state) ∙ due.1 in

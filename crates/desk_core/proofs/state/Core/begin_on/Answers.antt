@@ -15,6 +15,7 @@ use Rattle.desk_trail.specs.States.{ClientState, ServerState}
 use Rattle.desk_trail.specs.Written.{IsAtLeast, a_request, an_entry}
 use Rattle.legal_trail.specs.Recorded.{Recorded}
 use Rattle.wired_trail.specs.Lines.{KeepsOthers, line_at, with_unsent}
+use Rattle.desk_core.specs.Kept.{MayBegin}
 use Rattle.desk_core.specs.Rests.{HasBegun}
 use Rattle.desk_core.proofs.AppendsLemmas.{Appends-adds, Appends-room, Appends-trans, AreLonger-refl, AreLonger-requests, kept-by_begin, kept-by_hello}
 use Rattle.desk_core.proofs.CheckLemmas.{Begins, IsBegun, IsBegun-by, IsKept-begun, StandsAt-began, StandsAt-hello}
@@ -35,7 +36,8 @@ returns-in_err-reserve-clause-appends g c =
 
 pub append-requires-clause-stands : goal.append-requires-clause-stands
 append-requires-clause-stands g c =
-    let ready = rw (← c.self.view_is) at c.requires.ready in
+    let ready = rw (← c.self.view_is) at c.requires.begins.1 in
+    let rest = c.requires.begins.0 in
     let due = rw (← c.self.view_is) at c.requires.due in
     let h = c.self.invariant.leads ready.runs in
     let point : c.reserve.new.self.trail.point ≡ c.self.inside.wired.trail.point = ap (λ s. s.trail.point) c.reserve.ensures.same in
@@ -44,7 +46,8 @@ append-requires-clause-stands g c =
     let now = ready.now in (
       fact.CheckBegan c.args.host c.args.stream,
       refl,
-      StandsAt-began c.reserve.new.self.trail.client c.reserve.new.self.trail.point c.args.moment c.args.host c.args.stream (ap (λ (p : Point). p.owed) point ∙ ready.paid) (omega arith)
+      StandsAt-began c.reserve.new.self.trail.client c.reserve.new.self.trail.point c.args.moment c.args.host c.args.stream rest
+          (subst (λ (p : Point). MayBegin p c.args.moment c.args.host rest) (sym point) ready.turn) (omega arith)
           (ap (λ (p : Point). p.state.is_ending) point ∙ ap (λ (s : ClientState). s.is_ending) h.state)
           (subst (λ (p : Point). AtServer p.state c.args.host (λ s. IsDue c.args.moment s × IsCheckStream p.state s.check_stream c.args.stream)) (sym point)
           (due.0, due.1, (due.2.0, due.2.1))),
@@ -63,19 +66,20 @@ ask-requires-clause-room g c =
 
 pub ask-requires-clause-stands : goal.ask-requires-clause-stands
 ask-requires-clause-stands g c =
-    let ready = rw (← c.self.view_is) at c.requires.ready in
+    let ready = rw (← c.self.view_is) at c.requires.begins.1 in
+    let rest = c.requires.begins.0 in
     let due = rw (← c.self.view_is) at c.requires.due in
     let h = c.self.invariant.leads ready.runs in
     let r : Recorded = c.reserve.new.self.trail in
     let same = c.reserve.ensures.same in
     let point : r.point ≡ c.self.inside.wired.trail.point = ap (λ s. s.trail.point) same in
     let adds = c.append.ensures.adds (fact.CheckBegan c.args.host c.args.stream) refl in
-    let b : IsBegun r c.append.new.self.trail c.args.moment c.args.host c.args.stream due.0 =
-    IsBegun-by r c.append.new.self.trail c.args.moment c.args.host c.args.stream due.0 (entry_of.CheckBegan c.args.host c.args.stream) adds
-    (ap (λ (p : Point). slice_get p.state.servers c.args.host) point ∙ due.1) (ap (λ (p : Point). p.owed) point ∙ ready.paid) in
-    StandsAt-hello c.append.new.self.trail.client c.append.new.self.trail.point c.args.moment c.args.host c.args.stream (length c.append.new.self.trail.lists.requests) c.args.first
+    let b : IsBegun r c.append.new.self.trail c.args.moment c.args.host c.args.stream rest due.0 =
+    IsBegun-by r c.append.new.self.trail c.args.moment c.args.host c.args.stream rest due.0 (entry_of.CheckBegan c.args.host c.args.stream) adds
+    (ap (λ (p : Point). slice_get p.state.servers c.args.host) point ∙ due.1) (subst (λ (p : Point). MayBegin p c.args.moment c.args.host rest) (sym point) ready.turn) in
+    StandsAt-hello c.append.new.self.trail.client c.append.new.self.trail.point c.args.moment c.args.host c.args.stream (length c.append.new.self.trail.lists.requests) c.args.first rest
     c.in_ok-request.request
-    (b.owes ∙ ap (λ f. owed.Hello (purpose_of.Check c.args.host) c.args.stream f ∷ []) (sym due.2.2))
+    (b.owes ∙ ap (λ f. owed.Hello (purpose_of.Check c.args.host) c.args.stream f ∷ rest) (sym due.2.2))
     b.at
     (b.going ∙ ap (λ (p : Point). p.state.is_ending) point ∙ ap (λ (s : ClientState). s.is_ending) h.state)
     c.in_ok-request.ensures.hello
@@ -86,7 +90,8 @@ ask-requires-clause-stands g c =
 
 pub index_mut-server-requires : goal.index_mut-server-requires
 index_mut-server-requires g c =
-    let ready = rw (← c.self.view_is) at c.requires.ready in
+    let ready = rw (← c.self.view_is) at c.requires.begins.1 in
+    let rest = c.requires.begins.0 in
     let due = rw (← c.self.view_is) at c.requires.due in
     let h = c.self.invariant.leads ready.runs in
     let there : slice_get c.self.inside.servers.items c.args.host ≡ Some due.0 = ap (λ (s : ClientState). slice_get s.servers c.args.host) (sym h.state) ∙ due.1 in
@@ -95,7 +100,8 @@ index_mut-server-requires g c =
 
 pub begin_check-requires-clause-stays : goal.begin_check-requires-clause-stays
 begin_check-requires-clause-stays g c =
-    let ready = rw (← c.self.view_is) at c.requires.ready in
+    let ready = rw (← c.self.view_is) at c.requires.begins.1 in
+    let rest = c.requires.begins.0 in
     let due = rw (← c.self.view_is) at c.requires.due in
     let h = c.self.invariant.leads ready.runs in
     let there : slice_get c.self.inside.servers.items c.args.host ≡ Some due.0 = ap (λ (s : ClientState). slice_get s.servers c.args.host) (sym h.state) ∙ due.1 in
@@ -105,7 +111,8 @@ begin_check-requires-clause-stays g c =
 
 pub begin_check-requires-clause-idle : goal.begin_check-requires-clause-idle
 begin_check-requires-clause-idle g c =
-    let ready = rw (← c.self.view_is) at c.requires.ready in
+    let ready = rw (← c.self.view_is) at c.requires.begins.1 in
+    let rest = c.requires.begins.0 in
     let due = rw (← c.self.view_is) at c.requires.due in
     let h = c.self.invariant.leads ready.runs in
     let there : slice_get c.self.inside.servers.items c.args.host ≡ Some due.0 = ap (λ (s : ClientState). slice_get s.servers c.args.host) (sym h.state) ∙ due.1 in
@@ -115,7 +122,8 @@ begin_check-requires-clause-idle g c =
 
 pub invariant_of-self-2 : goal.invariant_of-self-2
 invariant_of-self-2 g c =
-    let ready = rw (← c.self.view_is) at c.requires.ready in
+    let ready = rw (← c.self.view_is) at c.requires.begins.1 in
+    let rest = c.requires.begins.0 in
     let due = rw (← c.self.view_is) at c.requires.due in
     let line = rw (← c.self.view_is) at c.requires.line in
     let h = c.self.invariant.leads ready.runs in
@@ -157,19 +165,26 @@ invariant_of-self-2 g c =
     due.2.0.stays line_there line.2 now_there line.2 others ready.now (omega arith) (c.begin_check.ensures.begins ∙ ap (check_begins c.args.moment c.args.stream) is) kept
 
 pub returns-clause-ok : goal.returns-clause-ok
-returns-clause-ok g c =
-    let ready = rw (← c.self.view_is) at c.requires.ready in
+returns-clause-ok g c = λ rest begins.
+    let ready = rw (← c.self.view_is) at begins in
     let due = rw (← c.self.view_is) at c.requires.due in
     let r : Recorded = c.reserve.new.self.trail in
     let point : r.point ≡ c.self.inside.wired.trail.point = ap (λ s. s.trail.point) c.reserve.ensures.same in
     let adds = c.append.ensures.adds (fact.CheckBegan c.args.host c.args.stream) refl in
-    let b : IsBegun r c.append.new.self.trail c.args.moment c.args.host c.args.stream due.0 =
-    IsBegun-by r c.append.new.self.trail c.args.moment c.args.host c.args.stream due.0 (entry_of.CheckBegan c.args.host c.args.stream) adds
-    (ap (λ (p : Point). slice_get p.state.servers c.args.host) point ∙ due.1) (ap (λ (p : Point). p.owed) point ∙ ready.paid) in
+    let b : IsBegun r c.append.new.self.trail c.args.moment c.args.host c.args.stream rest due.0 =
+    IsBegun-by r c.append.new.self.trail c.args.moment c.args.host c.args.stream rest due.0 (entry_of.CheckBegan c.args.host c.args.stream) adds
+    (ap (λ (p : Point). slice_get p.state.servers c.args.host) point ∙ due.1) (subst (λ (p : Point). MayBegin p c.args.moment c.args.host rest) (sym point) ready.turn) in
+    let more : IsAtLeast (record { names = 0; events = 0; sessions = 0; requests = 1; steps = c.self.inside.closings + 2 }) r.room =
+    subst (λ (m : Room). IsAtLeast m r.room) c.in_ok-room.ensures c.in_ok-reserve.ensures.room in
+    let steps = more.steps in
+    let used_first = adds.room_used.steps in
+    let used_then = c.ask.ensures.adds.room_used.steps in
     record {
       runs = ready.runs;
-      paid = ap (λ (p : Point). p.owed) c.ask.ensures.adds.point_now ∙ ap (drop 1) b.owes;
+      owes = ap (λ (p : Point). p.owed) c.ask.ensures.adds.point_now ∙ ap (drop 1) b.owes;
+      at = ap (λ (p : Point). p.moment) c.ask.ensures.adds.point_now;
       now = ready.now;
+      space = omega arith;
     }
 
 pub returns-clause-appends : goal.returns-clause-appends
@@ -189,7 +204,8 @@ returns-clause-appends g c =
 
 pub returns-clause-begins : goal.returns-clause-begins
 returns-clause-begins g c =
-    let ready = rw (← c.self.view_is) at c.requires.ready in
+    let ready = rw (← c.self.view_is) at c.requires.begins.1 in
+    let rest = c.requires.begins.0 in
     let due = rw (← c.self.view_is) at c.requires.due in
     let line = rw (← c.self.view_is) at c.requires.line in
     let h = c.self.invariant.leads ready.runs in

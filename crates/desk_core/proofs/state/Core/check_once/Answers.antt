@@ -1,4 +1,6 @@
-use Rattle.desk_core.proofs.AppendsLemmas.{Appends-refl}
+use Rattle.std.proofs.Common.{[]}
+use Rattle.desk_core.proofs.AppendsLemmas.{Appends-refl, Appends-rose}
+use Rattle.desk_core.proofs.CheckLemmas.{IsReady-paid, IsToBegin-ready}
 use Rattle.desk_core.proofs.RestLemmas.{HasEnded-begun, HasEnded-rests, HasEnded-undialled, IsAtRest-by}
 use Rattle.desk_core.proofs.SightLemmas.{ends-by}
 use Rattle.desk_core.proofs.state.Core.check_once.Goals.{then-is_due+in_ok-begin_check, else-is_due}
@@ -33,4 +35,37 @@ returns-then-is_running-clause-ends g c = elim c.if-is_due.branch [
       (λ ended. HasEnded-begun c.args.self.now.trail.point.state w.begin_check.new.self.trail.point.state c.drive_check.new.self.trail.point.state c.args.moment c.args.host
       (c.is_due.ensures.yes w.if-is_due.true) w.in_ok-begin_check.ensures.begins ended) ends
   | else-is_due w ↦ rw w.self-is at c.drive_check.ensures.ends
+]
+
+pub returns-then-is_running-clause-appends : goal.returns-then-is_running-clause-appends
+returns-then-is_running-clause-appends g c = elim c.if-is_due.branch [
+  | then-is_due+in_ok-begin_check w ↦
+      let faults = rw w.self-is at c.drive_check.ensures.faults in
+      let appends = rw w.self-is at c.drive_check.ensures.appends in
+      Appends-rose _ _ _ c.args.moment c.args.self.now.trail w.begin_check.new.self.trail c.drive_check.new.self.trail w.begin_check.ensures.faults faults w.begin_check.ensures.appends appends
+  | else-is_due w ↦ rw w.self-is at c.drive_check.ensures.appends
+]
+
+pub is_running-requires : goal.is_running-requires
+is_running-requires g c = elim c.if-is_due.branch [
+  | then-is_due+in_ok-begin_check w ↦
+      rw w.self-is
+      (IsReady-paid w.begin_check.new.self c.args.moment 0 (w.in_ok-begin_check.ensures.ok [] (IsToBegin-ready c.args.self.now c.args.moment c.args.host c.requires.ready))).runs
+  | else-is_due w ↦ rw w.self-is c.requires.ready.runs
+]
+
+pub drive_check-requires-clause-ready : goal.drive_check-requires-clause-ready
+drive_check-requires-clause-ready g c = elim c.if-is_due.branch [
+  | then-is_due+in_ok-begin_check w ↦
+      rw w.self-is
+      (IsReady-paid w.begin_check.new.self c.args.moment 0 (w.in_ok-begin_check.ensures.ok [] (IsToBegin-ready c.args.self.now c.args.moment c.args.host c.requires.ready)))
+  | else-is_due w ↦ rw w.self-is c.requires.ready
+]
+
+pub returns-else-is_running-clause-ok : goal.returns-else-is_running-clause-ok
+returns-else-is_running-clause-ok g c = elim c.if-is_due.branch [
+  | then-is_due+in_ok-begin_check w ↦
+      rw w.self-is
+      (IsReady-paid w.begin_check.new.self c.args.moment 0 (w.in_ok-begin_check.ensures.ok [] (IsToBegin-ready c.args.self.now c.args.moment c.args.host c.requires.ready)))
+  | else-is_due w ↦ rw w.self-is c.requires.ready
 ]

@@ -1,4 +1,4 @@
-use Rattle.std.proofs.Common.{◌≡◌, ◌+◌, ◌++◌, Bool, [], length, None, Some, refl, sym, ap, ◌∙◌, subst, arith}
+use Rattle.std.proofs.Common.{◌≡◌, ◌+◌, ◌++◌, Bool, length, None, Some, refl, sym, ap, ◌∙◌, subst, arith}
 use Rattle.std.specs.Prelude.{drop, slice_get}
 use Rattle.std.proofs.lemmas.List.{length-map}
 use Rattle.std.proofs.lemmas.Option.{slice_get_within}
@@ -10,7 +10,7 @@ use Rattle.desk_trail.specs.declared.entry.CheckHow.TheVariants as how_of
 use Rattle.desk_trail.specs.declared.entry.Entry.TheVariants as entry_of
 use Rattle.desk_trail.specs.declared.room.Room.{Room}
 use Rattle.watch_step.specs.Ends.{is_again}
-use Rattle.desk_trail.specs.Checks.{AtServer, MayCheckEnd, check_ends, end_of, kept_stream, offered_of}
+use Rattle.desk_trail.specs.Checks.{check_ends, end_of, kept_stream, offered_of}
 use Rattle.desk_trail.specs.Facts.{Lists}
 use Rattle.desk_trail.specs.Facts as fact
 use Rattle.desk_trail.specs.Legal.{Point}
@@ -18,8 +18,9 @@ use Rattle.desk_trail.specs.States.{ClientState, ServerState}
 use Rattle.desk_trail.specs.Topologies.{asks_of, offered_after}
 use Rattle.desk_trail.specs.Written.{IsAtLeast, an_entry}
 use Rattle.legal_trail.specs.Recorded.{Recorded}
+use Rattle.desk_core.specs.Kept.{MayBegin}
 use Rattle.desk_core.proofs.AppendsLemmas.{Appends-adds, Appends-quiet, Appends-refl, Appends-room, Appends-trans, AreLonger-refl, kept-by_end}
-use Rattle.desk_core.proofs.CheckLemmas.{IsKept-ended, IsOwedBy-broken, StandsAt-ended, all_same, none_kept}
+use Rattle.desk_core.proofs.CheckLemmas.{IsKept-ended, IsOwedBy-broken, StandsAt-undialled, all_same, begins-left, none_kept}
 use Rattle.desk_core.proofs.DropLemmas.{read-there}
 use Rattle.desk_core.proofs.KeptLemmas.{IsKept-room}
 use Rattle.desk_core.proofs.OfferLemmas.{OnOk-by}
@@ -44,7 +45,8 @@ returns-in_err-reserve-clause-appends g c =
 
 pub index-requires-2 : goal.index-requires-2
 index-requires-2 g c =
-    let ready = rw (← c.self.view_is) at c.requires.ready in
+    let ready = rw (← c.self.view_is) at c.requires.begins.1 in
+    let rest = c.requires.begins.0 in
     let due = rw (← c.self.view_is) at c.requires.due in
     let h = c.self.invariant.leads ready.runs in
     let there : slice_get c.self.inside.servers.items c.args.host ≡ Some due.0 = ap (λ (s : ClientState). slice_get s.servers c.args.host) (sym h.state) ∙ due.1 in
@@ -53,7 +55,8 @@ index-requires-2 g c =
 
 pub append-requires-clause-stands : goal.append-requires-clause-stands
 append-requires-clause-stands g c =
-    let ready = rw (← c.self.view_is) at c.requires.ready in
+    let ready = rw (← c.self.view_is) at c.requires.begins.1 in
+    let rest = c.requires.begins.0 in
     let due = rw (← c.self.view_is) at c.requires.due in
     let h = c.self.invariant.leads ready.runs in
     let point : c.reserve.new.self.trail.point ≡ c.self.inside.wired.trail.point = ap (λ s. s.trail.point) c.reserve.ensures.same in
@@ -63,15 +66,16 @@ append-requires-clause-stands g c =
     let now = ready.now in (
       fact.CheckEnded c.args.host c.in_ok-end.end.how,
       refl,
-      StandsAt-ended c.reserve.new.self.trail.client c.reserve.new.self.trail.point c.args.moment c.args.host c.in_ok-end.end.how (ap (λ (p : Point). p.owed) point ∙ ready.paid)
+      StandsAt-undialled c.reserve.new.self.trail.client c.reserve.new.self.trail.point c.args.moment c.args.host c.in_ok-end.end.how rest how
+          (subst (λ (p : Point). MayBegin p c.args.moment c.args.host rest) (sym point) ready.turn)
           (omega arith) (ap (λ (p : Point). p.state.is_ending) point ∙ ap (λ (s : ClientState). s.is_ending) h.state)
-          (subst (λ (k : CheckHow). AtServer c.reserve.new.self.trail.point.state c.args.host (MayCheckEnd c.reserve.new.self.trail.client c.args.moment k)) (sym how)
-          (due.0, ap (λ (p : Point). slice_get p.state.servers c.args.host) point ∙ due.1, (due.2.0, due.2.1))),
+          (due.0, ap (λ (p : Point). slice_get p.state.servers c.args.host) point ∙ due.1, (due.2.0, due.2.1)),
     )
 
 pub index_mut-server-requires : goal.index_mut-server-requires
 index_mut-server-requires g c =
-    let ready = rw (← c.self.view_is) at c.requires.ready in
+    let ready = rw (← c.self.view_is) at c.requires.begins.1 in
+    let rest = c.requires.begins.0 in
     let due = rw (← c.self.view_is) at c.requires.due in
     let h = c.self.invariant.leads ready.runs in
     let there : slice_get c.self.inside.servers.items c.args.host ≡ Some due.0 = ap (λ (s : ClientState). slice_get s.servers c.args.host) (sym h.state) ∙ due.1 in
@@ -80,7 +84,8 @@ index_mut-server-requires g c =
 
 pub end_check-requires-clause-stays : goal.end_check-requires-clause-stays
 end_check-requires-clause-stays g c =
-    let ready = rw (← c.self.view_is) at c.requires.ready in
+    let ready = rw (← c.self.view_is) at c.requires.begins.1 in
+    let rest = c.requires.begins.0 in
     let due = rw (← c.self.view_is) at c.requires.due in
     let h = c.self.invariant.leads ready.runs in
     let there : slice_get c.self.inside.servers.items c.args.host ≡ Some due.0 = ap (λ (s : ClientState). slice_get s.servers c.args.host) (sym h.state) ∙ due.1 in
@@ -90,7 +95,8 @@ end_check-requires-clause-stays g c =
 
 pub end_check-requires-clause-idle : goal.end_check-requires-clause-idle
 end_check-requires-clause-idle g c = λ n.
-    let ready = rw (← c.self.view_is) at c.requires.ready in
+    let ready = rw (← c.self.view_is) at c.requires.begins.1 in
+    let rest = c.requires.begins.0 in
     let due = rw (← c.self.view_is) at c.requires.due in
     let h = c.self.invariant.leads ready.runs in
     let there : slice_get c.self.inside.servers.items c.args.host ≡ Some due.0 = ap (λ (s : ClientState). slice_get s.servers c.args.host) (sym h.state) ∙ due.1 in
@@ -100,7 +106,8 @@ end_check-requires-clause-idle g c = λ n.
 
 pub invariant_of-self-2 : goal.invariant_of-self-2
 invariant_of-self-2 g c =
-    let ready = rw (← c.self.view_is) at c.requires.ready in
+    let ready = rw (← c.self.view_is) at c.requires.begins.1 in
+    let rest = c.requires.begins.0 in
     let due = rw (← c.self.view_is) at c.requires.due in
     let h = c.self.invariant.leads ready.runs in
     let r : Recorded = c.reserve.new.self.trail in
@@ -127,7 +134,8 @@ invariant_of-self-2 g c =
 
 pub offer-requires-clause-writing : goal.offer-requires-clause-writing
 offer-requires-clause-writing g c =
-    let ready = rw (← c.self.view_is) at c.requires.ready in
+    let ready = rw (← c.self.view_is) at c.requires.begins.1 in
+    let rest = c.requires.begins.0 in
     let due = rw (← c.self.view_is) at c.requires.due in
     let h = c.self.invariant.leads ready.runs in
     let r : Recorded = c.reserve.new.self.trail in
@@ -145,14 +153,14 @@ offer-requires-clause-writing g c =
     let steps = more.steps in
     let used = adds.room_used.steps in (
       o.first,
-      [],
+      rest,
       record {
         runs = ready.runs;
         owes =
             ap (λ (p : Point). p.owed) adds.point_now
             ∙ ap (λ (p : Point). offered_of k (slice_get p.state.servers c.args.host) ++ drop 1 p.owed) point
             ∙ ap (λ x. offered_of k x ++ drop 1 c.self.inside.wired.trail.point.owed) due.1
-            ∙ ap (λ ds. offered_of k (Some due.0) ++ drop 1 ds) ready.paid ∙ ap (λ ds. ds ++ []) o.is;
+            ∙ ap (λ ds. offered_of k (Some due.0) ++ ds) (begins-left c.self.inside.wired.trail.point c.args.moment c.args.host rest ready.turn) ∙ ap (λ ds. ds ++ rest) o.is;
         at = ap (λ (p : Point). p.moment) adds.point_now;
         now = ready.now;
         space = omega arith;
@@ -162,7 +170,8 @@ offer-requires-clause-writing g c =
 
 pub offer-requires-clause-count : goal.offer-requires-clause-count
 offer-requires-clause-count g c =
-    let ready = rw (← c.self.view_is) at c.requires.ready in
+    let ready = rw (← c.self.view_is) at c.requires.begins.1 in
+    let rest = c.requires.begins.0 in
     let h = c.self.invariant.leads ready.runs in
     let adds = c.append.ensures.adds (fact.CheckEnded c.args.host c.in_ok-end.end.how) refl in
     let count : length c.append.new.self.trail.lists.names ≡ length c.self.inside.servers.items =
@@ -173,8 +182,8 @@ offer-requires-clause-count g c =
     omega arith
 
 pub returns-clause-ok : goal.returns-clause-ok
-returns-clause-ok g c =
-    let ready = rw (← c.self.view_is) at c.requires.ready in
+returns-clause-ok g c = λ rest begins.
+    let ready = rw (← c.self.view_is) at begins in
     let due = rw (← c.self.view_is) at c.requires.due in
     let h = c.self.invariant.leads ready.runs in
     let r : Recorded = c.reserve.new.self.trail in
@@ -191,18 +200,17 @@ returns-clause-ok g c =
     subst (λ (m : Room). IsAtLeast m r.room) c.in_ok-room.ensures c.in_ok-reserve.ensures.room in
     let steps = more.steps in
     let used = adds.room_used.steps in
-    OnOk-by c.offer.result _ _ (λ e. record { runs = e.runs; paid = e.owes; now = e.now })
-    (c.offer.ensures.ok o.first [] (record {
+    c.offer.ensures.ok o.first rest (record {
       runs = ready.runs;
       owes =
           ap (λ (p : Point). p.owed) adds.point_now
           ∙ ap (λ (p : Point). offered_of k (slice_get p.state.servers c.args.host) ++ drop 1 p.owed) point
           ∙ ap (λ x. offered_of k x ++ drop 1 c.self.inside.wired.trail.point.owed) due.1
-          ∙ ap (λ ds. offered_of k (Some due.0) ++ drop 1 ds) ready.paid ∙ ap (λ ds. ds ++ []) o.is;
+          ∙ ap (λ ds. offered_of k (Some due.0) ++ ds) (begins-left c.self.inside.wired.trail.point c.args.moment c.args.host rest ready.turn) ∙ ap (λ ds. ds ++ rest) o.is;
       at = ap (λ (p : Point). p.moment) adds.point_now;
       now = ready.now;
       space = omega arith;
-    }))
+    })
 
 pub returns-clause-appends : goal.returns-clause-appends
 returns-clause-appends g c =
@@ -219,7 +227,8 @@ returns-clause-appends g c =
 
 pub returns-clause-rests : goal.returns-clause-rests
 returns-clause-rests g c =
-    let ready = rw (← c.self.view_is) at c.requires.ready in
+    let ready = rw (← c.self.view_is) at c.requires.begins.1 in
+    let rest = c.requires.begins.0 in
     let due = rw (← c.self.view_is) at c.requires.due in
     let h = c.self.invariant.leads ready.runs in
     let r : Recorded = c.reserve.new.self.trail in

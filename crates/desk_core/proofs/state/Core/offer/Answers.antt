@@ -1,5 +1,7 @@
-use Rattle.std.proofs.Common.{◌≡◌, ◌+◌, ◌∷◌, [], true, false, length, refl, sym, ap, ◌∙◌, subst, arith}
+use Rattle.std.proofs.Common.{◌≡◌, ◌<◌, ◌+◌, List, ◌∷◌, [], true, false, length, None, refl, sym, ap, ◌∙◌, subst, arith}
+use Rattle.std.specs.Prelude.{IfSome}
 use Rattle.std.specs.FinMap as map
+use Rattle.std.specs.Option.{option_and_then}
 use Rattle.std.proofs.lemmas.List.{length-append}
 use Rattle.topo_rules.specs.Changes.{IsChange, stands}
 use Rattle.topo_rules.specs.declared.topology.Topology.{Topology}
@@ -9,9 +11,9 @@ use Rattle.topo_book.specs.Fresh.{is_accepted_verdict}
 use Rattle.topo_book.specs.Means.{stands_known}
 use Rattle.topo_book.specs.Offers.{verdict_of}
 use Rattle.topo_book.specs.declared.taken.Taken.TheVariants as answer
-use Rattle.desk_trail.specs.States.{ClientState}
+use Rattle.desk_trail.specs.States.{ClientState, ServerState, number_of}
 use Rattle.desk_trail.specs.Legal.{Point}
-use Rattle.desk_trail.specs.Topologies.{generation_in, offered_after, server_with, verdict_on}
+use Rattle.desk_trail.specs.Topologies.{asks_of, generation_in, offered_after, server_with, verdict_on}
 use Rattle.desk_trail.specs.Written.{an_event}
 use Rattle.desk_core.specs.Answered.{added_by, removed_by}
 use Rattle.desk_core.specs.Follows.{entries_for, owed_by}
@@ -19,7 +21,7 @@ use Rattle.desk_core.specs.Rests.{KeepsChecks}
 use Rattle.desk_core.proofs.ApartLemmas.{AreApart-change, accepted-stands}
 use Rattle.desk_core.proofs.AppendsLemmas.{Appends-adds, Appends-refl, Appends-room, Appends-trans, AreLonger-events, kept-offered}
 use Rattle.desk_core.proofs.KeptLemmas.{IsKept-room}
-use Rattle.desk_core.proofs.OfferLemmas.{IsKept-offered, IsWriting-after, OnOk-by, accepted-owes, change-is, servers-offered, topology-is, verdict-is}
+use Rattle.desk_core.proofs.OfferLemmas.{IsKept-offered, IsWriting-after, OnOk-by, accepted-owes, accepted-servers, asked-within, change-is, refused-servers, refused-verdict, servers-offered, topology-is, verdict-is}
 use Rattle.desk_core.proofs.RestLemmas.{KeepsChecks-same, broken-unknown}
 use Rattle.desk_core.proofs.state.Core.offer.Goals as goal
 
@@ -33,6 +35,14 @@ pub returns-in-Err-clause-appends : goal.returns-in-Err-clause-appends
 returns-in-Err-clause-appends g c =
     rw (← c.self.view_is) (Appends-room c.args.moment c.self.inside.wired.trail c.reserve.new.self.trail c.reserve.new.self.trail.room (ap (λ s. s.trail) c.reserve.ensures.same))
 
+pub ask_at-requires-clause-within : goal.ask_at-requires-clause-within
+ask_at-requires-clause-within g c =
+    let w = rw (← c.self.view_is) at c.requires.writing in
+    let h = c.self.invariant.leads w.2.runs in
+    let asked = c.asked_by-asked.ensures ∙ ap (λ d. option_and_then (number_of d.trail.point.state) (asks_of c.args.event)) (sym c.self.view_is) in
+    subst (λ (ss : List ServerState). IfSome c.asked_by-asked.result (λ x. x < length ss)) (ap (λ (v : ClientState). v.servers) h.state)
+    (asked-within c.self.inside.wired.trail.point.state (asks_of c.args.event) c.asked_by-asked.result asked)
+
 pub invariant_of-self-in-Accepted : goal.invariant_of-self-in-Accepted
 invariant_of-self-in-Accepted g c =
     let w = rw (← c.self.view_is) at c.requires.writing in
@@ -44,8 +54,11 @@ invariant_of-self-in-Accepted g c =
     let verdict : verdict_of c.in_ok-taken.taken ≡ verdict_on r.point.state c.args.event =
     verdict-is c.self.inside.topology.topology r.point.state c.args.event c.in_ok-copy.copy c.generation_of-generation.result c.host.result.now (verdict_of c.in_ok-taken.taken) there c.in_ok-copy.ensures c.host.ensures
     (c.generation_of-generation.ensures ∙ ap (λ v. generation_in (server_with v c.host.result.now)) states) c.in_ok-taken.ensures.answer in
-    IsKept-offered r c.offer-2.new.self.trail c.reserve.new.self.lines c.offer-2.new.self.lines c.self.inside.topology.topology c.offer.new.self.topology _ _ _ _ _
-    c.args.moment _ c.args.event c.said_of.result _ kept runs (ap (λ s. s.lines) c.offer-2.ensures.same) c.offer-2.ensures.adds c.requires.of_check
+    let accepted : verdict_on r.point.state c.args.event ≡ verdict_of (answer.Accepted c.in-Accepted.change) = sym verdict ∙ ap verdict_of c.in-Accepted.is in
+    let asks = accepted-servers c.args.moment c.args.event r.point.state c.asked_by-asked.result (ap is_accepted_verdict accepted)
+    (c.asked_by-asked.ensures ∙ ap (λ v. option_and_then (number_of v) (asks_of c.args.event)) states) in
+    IsKept-offered r c.offer-2.new.self.trail c.reserve.new.self.lines c.offer-2.new.self.lines c.self.inside.topology.topology c.offer.new.self.topology _ _ c.asked_by-asked.result _ _ _ _
+    c.args.moment _ c.args.event c.said_of.result _ kept runs (ap (λ s. s.lines) c.offer-2.ensures.same) c.offer-2.ensures.adds asks c.ask_at.ensures.asked
     (topology-is c.self.inside.topology.topology c.offer.new.self.topology r.point.state c.args.event c.in_ok-copy.copy (verdict_of c.in_ok-taken.taken) there c.in_ok-copy.ensures verdict c.in_ok-taken.ensures.topology)
     w.2.now (omega (arith, c.in-Some.ensures.steps, c.in_default-reserve.ensures.room.steps))
 
@@ -60,8 +73,9 @@ invariant_of-self-in_default-taken g c =
     let verdict : verdict_of c.in_ok-taken.taken ≡ verdict_on r.point.state c.args.event =
     verdict-is c.self.inside.topology.topology r.point.state c.args.event c.in_ok-copy.copy c.generation_of-generation.result c.host.result.now (verdict_of c.in_ok-taken.taken) there c.in_ok-copy.ensures c.host.ensures
     (c.generation_of-generation.ensures ∙ ap (λ v. generation_in (server_with v c.host.result.now)) states) c.in_ok-taken.ensures.answer in
-    IsKept-offered r c.offer-2.new.self.trail c.reserve.new.self.lines c.offer-2.new.self.lines c.self.inside.topology.topology c.offer.new.self.topology _ _ _ _ _
-    c.args.moment _ c.args.event c.said_of.result _ kept runs (ap (λ s. s.lines) c.offer-2.ensures.same) c.offer-2.ensures.adds c.requires.of_check
+    let asks = refused-servers c.args.moment c.args.event r.point.state (ap is_accepted_verdict (sym verdict) ∙ refused-verdict c.in_ok-taken.taken c.in_default-taken.not-Accepted) in
+    IsKept-offered r c.offer-2.new.self.trail c.reserve.new.self.lines c.offer-2.new.self.lines c.self.inside.topology.topology c.offer.new.self.topology _ _ None _ _ _ _
+    c.args.moment _ c.args.event c.said_of.result _ kept runs (ap (λ s. s.lines) c.offer-2.ensures.same) c.offer-2.ensures.adds asks refl
     (topology-is c.self.inside.topology.topology c.offer.new.self.topology r.point.state c.args.event c.in_ok-copy.copy (verdict_of c.in_ok-taken.taken) there c.in_ok-copy.ensures verdict c.in_ok-taken.ensures.topology)
     w.2.now (omega (arith, c.in-Some.ensures.steps, c.in_default-reserve.ensures.room.steps))
 
@@ -80,7 +94,9 @@ follow-requires-clause-writing g c =
     change-is c.self.inside.topology.topology c.offer.new.self.topology r.point.state c.args.event c.in_ok-copy.copy c.in_ok-taken.taken c.in-Accepted.change there c.in_ok-copy.ensures c.in-Accepted.is
     c.in_ok-taken.ensures.topology c.in_ok-taken.ensures.change in
     let accepted : verdict_on r.point.state c.args.event ≡ verdict_of (answer.Accepted c.in-Accepted.change) = sym verdict ∙ ap verdict_of c.in-Accepted.is in
-    let servers = servers-offered r c.offer-2.new.self.trail _ c.args.moment _ c.args.event c.said_of.result _ c.offer-2.ensures.adds c.requires.of_check in
+    let asks = accepted-servers c.args.moment c.args.event r.point.state c.asked_by-asked.result (ap is_accepted_verdict accepted)
+    (c.asked_by-asked.ensures ∙ ap (λ v. option_and_then (number_of v) (asks_of c.args.event)) states) in
+    let servers = servers-offered r c.offer-2.new.self.trail _ c.args.moment _ c.args.event c.said_of.result _ c.asked_by-asked.result c.offer-2.ensures.adds asks in
     let used : r.room.steps ≡ c.offer-2.new.self.trail.room.steps + 1 = c.offer-2.ensures.adds.room_used.steps in
     let removed : length (removed_by c.in_ok-taken.taken) ≡ length c.in-Accepted.change.removed = ap (λ t. length (removed_by t)) c.in-Accepted.is in
     let added : length (added_by c.in_ok-taken.taken) ≡ length c.in-Accepted.change.added = ap (λ t. length (added_by t)) c.in-Accepted.is in
@@ -88,7 +104,7 @@ follow-requires-clause-writing g c =
       w.1,
       0,
       IsWriting-after _ r an_event _ c.args.moment (0 + entries_for c.in-Accepted.change) w.0 w.1 (owed_by c.offer-2.new.self.trail.point.state c.in-Accepted.change) _ _ owed c.offer-2.ensures.adds
-          (accepted-owes r.point.state c.offer-2.new.self.trail.point.state c.args.event c.in-Accepted.change (ap is_accepted_verdict accepted) h servers) refl w.2.runs w.2.now
+          (accepted-owes c.args.moment c.asked_by-asked.result r.point.state c.offer-2.new.self.trail.point.state c.args.event c.in-Accepted.change (ap is_accepted_verdict accepted) h servers) refl w.2.runs w.2.now
           (omega (arith, c.in-Some.ensures.steps, c.in_default-reserve.ensures.room.steps)),
     )
 
@@ -125,13 +141,15 @@ returns-in-Accepted-clause-ok g c = λ first rest before.
     change-is c.self.inside.topology.topology c.offer.new.self.topology r.point.state c.args.event c.in_ok-copy.copy c.in_ok-taken.taken c.in-Accepted.change there c.in_ok-copy.ensures c.in-Accepted.is
     c.in_ok-taken.ensures.topology c.in_ok-taken.ensures.change in
     let accepted : verdict_on r.point.state c.args.event ≡ verdict_of (answer.Accepted c.in-Accepted.change) = sym verdict ∙ ap verdict_of c.in-Accepted.is in
-    let servers = servers-offered r c.offer-2.new.self.trail _ c.args.moment _ c.args.event c.said_of.result _ c.offer-2.ensures.adds c.requires.of_check in
+    let asks = accepted-servers c.args.moment c.args.event r.point.state c.asked_by-asked.result (ap is_accepted_verdict accepted)
+    (c.asked_by-asked.ensures ∙ ap (λ v. option_and_then (number_of v) (asks_of c.args.event)) states) in
+    let servers = servers-offered r c.offer-2.new.self.trail _ c.args.moment _ c.args.event c.said_of.result _ c.asked_by-asked.result c.offer-2.ensures.adds asks in
     let used : r.room.steps ≡ c.offer-2.new.self.trail.room.steps + 1 = c.offer-2.ensures.adds.room_used.steps in
     let removed : length (removed_by c.in_ok-taken.taken) ≡ length c.in-Accepted.change.removed = ap (λ t. length (removed_by t)) c.in-Accepted.is in
     let added : length (added_by c.in_ok-taken.taken) ≡ length c.in-Accepted.change.added = ap (λ t. length (added_by t)) c.in-Accepted.is in
     let owed : r.point.owed ≡ first ∷ rest = ap (λ s. s.trail.point.owed) c.reserve.ensures.same ∙ x.owes in
     c.follow.ensures.ok rest 0 (IsWriting-after _ r an_event _ c.args.moment (0 + entries_for c.in-Accepted.change) first rest (owed_by c.offer-2.new.self.trail.point.state c.in-Accepted.change) _ _ owed c.offer-2.ensures.adds
-    (accepted-owes r.point.state c.offer-2.new.self.trail.point.state c.args.event c.in-Accepted.change (ap is_accepted_verdict accepted) h servers) refl x.runs x.now
+    (accepted-owes c.args.moment c.asked_by-asked.result r.point.state c.offer-2.new.self.trail.point.state c.args.event c.in-Accepted.change (ap is_accepted_verdict accepted) h servers) refl x.runs x.now
     (omega (arith, c.in-Some.ensures.steps, c.in_default-reserve.ensures.room.steps)))
 
 pub returns-in-Accepted-clause-names : goal.returns-in-Accepted-clause-names

@@ -1,0 +1,15 @@
+use Rattle.desk_core.proofs.GoingLemmas.{Appends-then, HasGone-one, HasGone-then, OnOk-both}
+use Rattle.desk_core.proofs.state.Core.begin_attempt.Goals as goal
+
+pub returns-then-eq-clause-gone : goal.returns-then-eq-clause-gone
+returns-then-eq-clause-gone g c =
+    let gone = c.in_ok-entered.ensures.gone in
+    OnOk-both c.attempt.result _ _ _
+    (λ ready m. HasGone-then c.args.self.now c.enter_pool.new.self c.attempt.new.self c.args.at.moment c.args.at.op _ _ _ _ gone
+    (HasGone-one c.enter_pool.new.self c.attempt.new.self c.args.at.moment c.args.at.op _ _ _ gone.step ready m))
+    c.attempt.ensures.ok c.attempt.ensures.moves
+
+pub returns-then-eq-clause-appends : goal.returns-then-eq-clause-appends
+returns-then-eq-clause-appends g c =
+    Appends-then _ _ _ c.args.at.moment c.args.self.now.trail c.enter_pool.new.self.trail c.attempt.new.self.trail c.enter_pool.ensures.faults c.attempt.ensures.faults
+    c.enter_pool.ensures.appends c.attempt.ensures.appends

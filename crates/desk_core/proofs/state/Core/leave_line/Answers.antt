@@ -1,0 +1,16 @@
+use Rattle.std.proofs.Common.{refl, sym, arith}
+use Rattle.desk_core.proofs.AppendsLemmas.{grown-same}
+use Rattle.desk_core.proofs.GoingLemmas.{MovesOne-none}
+use Rattle.desk_core.proofs.state.Core.leave_line.Goals as goal
+
+pub returns-in_default : goal.returns-in_default
+returns-in_default g c = record {
+  ok = c.requires.work.ready;
+  moves = MovesOne-none c.args.at.op c.args.operation.now c.args.self.now.trail c.requires.work.there;
+  means = tt;
+  appends = grown-same c.args.at.moment c.args.self.now.trail c.args.self.now.trail refl refl refl;
+  faults = omega arith;
+}
+
+pub check_out-requires-2-clause-waits : goal.check_out-requires-2-clause-waits
+check_out-requires-2-clause-waits g c = (c.in-Waits.host, c.in-Waits.ticket.number, rw (← c.operation.view_is) (sym c.in-Waits.ensures.check_out))

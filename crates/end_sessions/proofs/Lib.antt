@@ -1,0 +1,3 @@
+mod FarewellLemmas
+mod CarrierLemmas
+mod HostLemmas

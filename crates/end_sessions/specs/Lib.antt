@@ -1,0 +1,2 @@
+pub mod Farewells
+pub mod Carriers

@@ -1,0 +1,58 @@
+//! Each public call on its happy path, and printed text. The crate `topo_cases` runs tables of replies, versions and faults.
+use bson_doc::{Document, Name, Oid, Text, TopologyVersion, Value};
+use hello_reply::{
+    ReplyFault, ServerDescription, ServerKind, compare_version, default_unknown, describe,
+};
+use host_name::Host;
+use std::alloc::Global;
+use std::cmp::Ordering;
+use std::test::Fail;
+
+fn add(alloc: Global, reply: &mut Document, name: &str, value: Value) -> Result<(), Fail> {
+    let name = Name::new(Text::take(alloc, name)?)?;
+    reply.push(name, value)?;
+    Ok(())
+}
+
+/// What a router's reply describes.
+fn described(alloc: Global, host: &Host) -> Result<ServerDescription, Fail> {
+    let mut reply = Document::new(alloc);
+    add(alloc, &mut reply, "ok", Value::Int32(1))?;
+    let msg = Value::Str(Text::take(alloc, "isdbgrid")?);
+    add(alloc, &mut reply, "msg", msg)?;
+    Ok(describe(alloc, &reply, host)?)
+}
+
+#[test]
+fn servers_are_described(rt: HostRuntime) -> Result<(), Fail> {
+    let host = Host::parse(rt.alloc(), "H:1")?;
+    assert_eq!(rt;
+        default_unknown(rt.alloc(), &host)?.kind,
+        ServerKind::Unknown
+    );
+    let description = described(rt.alloc(), &host)?;
+    assert_eq!(rt; description.kind, ServerKind::Mongos);
+    let copy = description.copy(rt.alloc())?;
+    assert_eq!(rt; copy.kind, ServerKind::Mongos);
+    assert_eq!(rt; copy.host.name(), "h");
+    Ok(())
+}
+
+#[test]
+fn versions_are_compared(rt: HostRuntime) {
+    let version = TopologyVersion {
+        process: Oid([1; 12]),
+        counter: 5,
+    };
+    assert_eq!(rt;
+        compare_version(Some(version), Some(version)),
+        Ordering::Equal
+    );
+}
+
+#[test]
+fn want_of_memory_is_shown(rt: HostRuntime) -> Result<(), Fail> {
+    let shown = format!(in rt.alloc(); "{}", ReplyFault::Memory)?;
+    assert_eq!(rt; shown.as_str(), "out of memory");
+    Ok(())
+}

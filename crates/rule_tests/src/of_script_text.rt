@@ -1,0 +1,478 @@
+//! Scripts, and the commands or the first fault that each is read as.
+use bson_doc::{Bytes, Rows};
+use bson_text::TextFault;
+use cmd_build::{Act, Command};
+use net_link::SliceSource;
+use script_text::{ScriptFault, ScriptKind, ScriptRead, read_script};
+use std::alloc::{AllocError, Global};
+use std::test::Fail;
+
+/// A line that is a command.
+const LINE: &str = r#"{"lane":1,"op":"insert","coll":"a","doc":{}}"#;
+
+/// Scripts of one line, and the answer to each: the lane, database, collection and number of elements of its command, or
+/// the number of the line and what is wrong with it.
+const LINES: [(&str, &str); 94] = [
+    // Whole commands.
+    (
+        r#"{"lane":1,"op":"insert","coll":"a","doc":{"_id":7}}"#,
+        "1 - a 1;",
+    ),
+    (
+        r#"{"lane":64,"op":"insert","coll":"a","db":"d","doc":{}}"#,
+        "64 d a 0;",
+    ),
+    (
+        r#"{"doc":{"b":[],"c":null},"db":"d","coll":"a.b","op":"insert","lane":2}"#,
+        "2 d a.b 2;",
+    ),
+    (
+        r#"  { "lane" : 3 , "op" : "insert" , "coll" : "a" , "doc" : { } }  "#,
+        "3 - a 0;",
+    ),
+    (
+        "\t{\"lane\":4,\t\"op\":\"insert\",\"coll\":\"$é\",\"doc\":{}}",
+        "4 - $é 0;",
+    ),
+    (
+        r#"{"l\u0061ne":5,"op":"ins\u0065rt","coll":"a","doc":{}}"#,
+        "5 - a 0;",
+    ),
+    // A member that is missing.
+    (r#"{}"#, "1 shape"),
+    (r#"{"op":"insert","coll":"a","doc":{}}"#, "1 shape"),
+    (r#"{"lane":1,"coll":"a","doc":{}}"#, "1 shape"),
+    (r#"{"lane":1,"op":"insert","doc":{}}"#, "1 shape"),
+    (r#"{"lane":1,"op":"insert","coll":"a"}"#, "1 shape"),
+    // A member of a wrong kind.
+    (
+        r#"{"lane":"1","op":"insert","coll":"a","doc":{}}"#,
+        "1 shape",
+    ),
+    (
+        r#"{"lane":null,"op":"insert","coll":"a","doc":{}}"#,
+        "1 shape",
+    ),
+    (
+        r#"{"lane":true,"op":"insert","coll":"a","doc":{}}"#,
+        "1 shape",
+    ),
+    (
+        r#"{"lane":[1],"op":"insert","coll":"a","doc":{}}"#,
+        "1 shape",
+    ),
+    (r#"{"lane":1,"op":1,"coll":"a","doc":{}}"#, "1 shape"),
+    (r#"{"lane":1,"op":null,"coll":"a","doc":{}}"#, "1 shape"),
+    (
+        r#"{"lane":1,"op":["insert"],"coll":"a","doc":{}}"#,
+        "1 shape",
+    ),
+    (r#"{"lane":1,"op":"insert","coll":1,"doc":{}}"#, "1 shape"),
+    (
+        r#"{"lane":1,"op":"insert","coll":null,"doc":{}}"#,
+        "1 shape",
+    ),
+    (r#"{"lane":1,"op":"insert","coll":{},"doc":{}}"#, "1 shape"),
+    (
+        r#"{"lane":1,"op":"insert","coll":"a","db":null,"doc":{}}"#,
+        "1 shape",
+    ),
+    (
+        r#"{"lane":1,"op":"insert","coll":"a","db":1,"doc":{}}"#,
+        "1 shape",
+    ),
+    (r#"{"lane":1,"op":"insert","coll":"a","doc":[]}"#, "1 shape"),
+    (
+        r#"{"lane":1,"op":"insert","coll":"a","doc":null}"#,
+        "1 shape",
+    ),
+    (
+        r#"{"lane":1,"op":"insert","coll":"a","doc":"{}"}"#,
+        "1 shape",
+    ),
+    (
+        r#"{"lane":1,"op":"insert","coll":"a","doc":1.5}"#,
+        "1 shape",
+    ),
+    // No commands. The other commands stand in the case files of `script_cases`.
+    (r#"{"lane":1,"op":"update","coll":"a","doc":{}}"#, "1 shape"),
+    (r#"{"lane":1,"op":"Insert","coll":"a","doc":{}}"#, "1 shape"),
+    (
+        r#"{"lane":1,"op":"inserts","coll":"a","doc":{}}"#,
+        "1 shape",
+    ),
+    (r#"{"lane":1,"op":"","coll":"a","doc":{}}"#, "1 shape"),
+    // A member that is unknown.
+    (
+        r#"{"lane":1,"op":"insert","coll":"a","doc":{},"x":1}"#,
+        "1 shape",
+    ),
+    (
+        r#"{"lane":1,"op":"insert","coll":"a","doc":{},"filter":{}}"#,
+        "1 shape",
+    ),
+    (
+        r#"{"lane":1,"op":"insert","coll":"a","doc":{},"Lane":1}"#,
+        "1 shape",
+    ),
+    (
+        r#"{"lane":1,"op":"insert","coll":"a","doc":{},"":1}"#,
+        "1 shape",
+    ),
+    (
+        r#"{"lane":1,"op":"insert","coll":"a","doc":{},"do":1}"#,
+        "1 shape",
+    ),
+    (
+        r#"{"lane":1,"op":"insert","coll":"a","doc":{},"docs":1}"#,
+        "1 shape",
+    ),
+    // A member that stands twice counts by its last value.
+    (
+        r#"{"lane":0,"op":"insert","coll":"a","doc":{},"lane":6}"#,
+        "6 - a 0;",
+    ),
+    (
+        r#"{"lane":6,"op":"insert","coll":"a","doc":{},"lane":0}"#,
+        "1 lane",
+    ),
+    (
+        r#"{"lane":1,"op":"insert","coll":"","doc":{},"coll":"b"}"#,
+        "1 - b 0;",
+    ),
+    (
+        r#"{"lane":1,"op":"insert","coll":"a","doc":{"a":1,"a":2}}"#,
+        "1 - a 1;",
+    ),
+    // Names that are empty or have a zero.
+    (r#"{"lane":1,"op":"insert","coll":"","doc":{}}"#, "1 shape"),
+    (
+        r#"{"lane":1,"op":"insert","coll":"a\u0000b","doc":{}}"#,
+        "1 shape",
+    ),
+    (
+        r#"{"lane":1,"op":"insert","coll":"a","db":"","doc":{}}"#,
+        "1 shape",
+    ),
+    (
+        r#"{"lane":1,"op":"insert","coll":"a","db":"\u0000","doc":{}}"#,
+        "1 shape",
+    ),
+    // Lanes.
+    (r#"{"lane":0,"op":"insert","coll":"a","doc":{}}"#, "1 lane"),
+    (r#"{"lane":65,"op":"insert","coll":"a","doc":{}}"#, "1 lane"),
+    (r#"{"lane":-1,"op":"insert","coll":"a","doc":{}}"#, "1 lane"),
+    (
+        r#"{"lane":4294967297,"op":"insert","coll":"a","doc":{}}"#,
+        "1 lane",
+    ),
+    (
+        r#"{"lane":18446744073709551615,"op":"insert","coll":"a","doc":{}}"#,
+        "1 lane",
+    ),
+    (
+        r#"{"lane":-9223372036854775808,"op":"insert","coll":"a","doc":{}}"#,
+        "1 lane",
+    ),
+    (
+        r#"{"lane":18446744073709551616,"op":"insert","coll":"a","doc":{}}"#,
+        "1 shape",
+    ),
+    (
+        r#"{"lane":1.0,"op":"insert","coll":"a","doc":{}}"#,
+        "1 shape",
+    ),
+    (
+        r#"{"lane":1e1,"op":"insert","coll":"a","doc":{}}"#,
+        "1 shape",
+    ),
+    (
+        r#"{"lane":0.5,"op":"insert","coll":"a","doc":{}}"#,
+        "1 shape",
+    ),
+    (
+        r#"{"lane":-0,"op":"insert","coll":"a","doc":{}}"#,
+        "1 shape",
+    ),
+    (r#"{"lane":01,"op":"insert","coll":"a","doc":{}}"#, "1 json"),
+    (r#"{"lane":+1,"op":"insert","coll":"a","doc":{}}"#, "1 json"),
+    // Documents.
+    (
+        r#"{"lane":1,"op":"insert","coll":"a","doc":{"a":2147483647,"b":2147483648}}"#,
+        "1 - a 2;",
+    ),
+    (
+        r#"{"lane":1,"op":"insert","coll":"a","doc":{"a":9223372036854775807}}"#,
+        "1 - a 1;",
+    ),
+    (
+        r#"{"lane":1,"op":"insert","coll":"a","doc":{"a":-9223372036854775808}}"#,
+        "1 - a 1;",
+    ),
+    (
+        r#"{"lane":1,"op":"insert","coll":"a","doc":{"a":9223372036854775808}}"#,
+        "1 too big a",
+    ),
+    (
+        r#"{"lane":1,"op":"insert","coll":"a","doc":{"a":18446744073709551615}}"#,
+        "1 too big a",
+    ),
+    (
+        r#"{"lane":1,"op":"insert","coll":"a","doc":{"a":18446744073709551616}}"#,
+        "1 fraction a",
+    ),
+    (
+        r#"{"lane":1,"op":"insert","coll":"a","doc":{"a":[0,{"b":1.5}]}}"#,
+        "1 fraction a.1.b",
+    ),
+    (
+        r#"{"lane":1,"op":"insert","coll":"a","doc":{"a\u0000":1}}"#,
+        "1 nul a\0",
+    ),
+    // The shape comes before the lane, and the lane before the document.
+    (r#"{"lane":65,"op":"insert","coll":"a"}"#, "1 shape"),
+    (r#"{"lane":65,"op":"insert","coll":"","doc":{}}"#, "1 shape"),
+    (
+        r#"{"lane":65,"op":"insert","coll":"a","doc":{"a":1.5}}"#,
+        "1 lane",
+    ),
+    (
+        r#"{"lane":1,"op":"insert","coll":"a","doc":{"a":1.5},"x":1}"#,
+        "1 shape",
+    ),
+    // Values that are no objects.
+    ("[]", "1 shape"),
+    ("1", "1 shape"),
+    ("null", "1 shape"),
+    (r#""lane""#, "1 shape"),
+    // Texts that are no JSON.
+    ("{", "1 json"),
+    ("x", "1 json"),
+    ("{}{}", "1 json"),
+    ("{'lane':1}", "1 json"),
+    (r#"{"lane":1,}"#, "1 json"),
+    (r#"{"lane":1 // one"#, "1 json"),
+    ("\u{feff}{}", "1 json"),
+    ("\t", "1 json"),
+    ("  \r", "1 json"),
+    ("{\"a\":\"\u{1}\"}", "1 json"),
+    // Blank lines say nothing, and count.
+    ("", ""),
+    (" ", ""),
+    ("     ", ""),
+    ("\n", ""),
+    ("\r\n", ""),
+    ("  \r\n  \n", ""),
+    ("\n\n{", "3 json"),
+    ("   \n\r\n{}\n", "3 shape"),
+    // The first fault is told.
+    ("{\n{}\n", "1 json"),
+    ("{}\n{\n", "1 shape"),
+];
+
+#[test]
+fn lines_and_faults(rt: HostRuntime) -> Result<(), Fail> {
+    for (text, wanted) in &LINES {
+        let answer = answer_of(rt.alloc(), text.as_bytes())?;
+        assert_eq!(rt; answer.as_str(), *wanted, "{text}");
+    }
+    Ok(())
+}
+
+#[test]
+fn lines_are_cut_at_each_lf(rt: HostRuntime) -> Result<(), Fail> {
+    let alloc = rt.alloc();
+    let two = "1 - a 0;1 - a 0;";
+    for text in [
+        format!(in alloc; "{LINE}\n{LINE}\n")?,
+        format!(in alloc; "{LINE}\n{LINE}")?,
+        format!(in alloc; "{LINE}\r\n{LINE}\r\n")?,
+        format!(in alloc; "{LINE}\r\n{LINE}\r")?,
+        format!(in alloc; "\n  {LINE}  \n   \n{LINE}\n\n")?,
+    ] {
+        let answer = answer_of(alloc, text.as_bytes())?;
+        assert_eq!(rt; answer.as_str(), two, "{text}");
+    }
+    let second = format!(in alloc;
+        "{LINE}\n{{\"lane\":0,\"op\":\"insert\",\"coll\":\"a\",\"doc\":{{}}}}"
+    )?;
+    assert_eq!(rt; answer_of(alloc, second.as_bytes())?.as_str(), "2 lane");
+    let two_on_a_line = format!(in alloc; "{LINE}\r{LINE}")?;
+    assert_eq!(rt;
+        answer_of(alloc, two_on_a_line.as_bytes())?.as_str(),
+        "1 json"
+    );
+    Ok(())
+}
+
+#[test]
+fn bytes_that_are_no_utf8(rt: HostRuntime) -> Result<(), Fail> {
+    assert_eq!(rt; answer_of(rt.alloc(), b"\xff")?.as_str(), "1 json");
+    assert_eq!(rt;
+        answer_of(rt.alloc(), b"\n{\"a\":\"\xc3\"}\n")?.as_str(),
+        "2 json"
+    );
+    assert_eq!(rt; answer_of(rt.alloc(), b" \n\xc0\x80")?.as_str(), "2 json");
+    Ok(())
+}
+
+#[test]
+fn depths_of_documents_and_of_json(rt: HostRuntime) -> Result<(), Fail> {
+    // The document lies one level inside its line.
+    assert_eq!(rt; nested_document(rt.alloc(), 90)?.as_str(), "1 - a 1;");
+    assert_eq!(rt; nested_document(rt.alloc(), 91)?.as_str(), "1 deep");
+    assert_eq!(rt; nested_document(rt.alloc(), 126)?.as_str(), "1 deep");
+    assert_eq!(rt; nested_document(rt.alloc(), 127)?.as_str(), "1 json");
+    Ok(())
+}
+
+#[test]
+fn one_command_too_many(rt: HostRuntime) -> Result<(), Fail> {
+    let alloc = rt.alloc();
+    let most = repeated(alloc, LINE, 100_000)?;
+    let mut source = SliceSource::new(Bytes::take(alloc, most.as_bytes())?, Rows::new(alloc));
+    assert_eq!(rt; read_script(alloc, &mut source)?.len(), 100_000);
+    let long = format!(in alloc; "{most}\n{LINE}\n")?;
+    assert_eq!(rt; answer_of(alloc, long.as_bytes())?.as_str(), "100002 long");
+    let faulty = format!(in alloc; "{most}{{\n")?;
+    assert_eq!(rt;
+        answer_of(alloc, faulty.as_bytes())?.as_str(),
+        "100001 json"
+    );
+    Ok(())
+}
+
+#[test]
+fn one_byte_too_many(rt: HostRuntime) -> Result<(), Fail> {
+    let alloc = rt.alloc();
+    let mut bytes = Vec::new(alloc);
+    bytes.extend_from_slice(b"{\n\n")?;
+    let blanks = [b' '; 4096];
+    for _ in 0..4095 {
+        bytes.extend_from_slice(&blanks)?;
+    }
+    bytes.extend_from_slice(&blanks[..4093])?;
+    assert_eq!(rt; bytes.len(), 16_777_216);
+    assert_eq!(rt; answer_of(alloc, bytes.as_slice())?.as_str(), "1 json");
+    bytes.push(b'\n')?;
+    assert_eq!(rt; answer_of(alloc, bytes.as_slice())?.as_str(), "3 long");
+    bytes.push(b'\n')?;
+    assert_eq!(rt; answer_of(alloc, bytes.as_slice())?.as_str(), "3 long");
+    Ok(())
+}
+
+#[test]
+fn a_read_that_fails(rt: HostRuntime) -> Result<(), Fail> {
+    let alloc = rt.alloc();
+    for call in [1, 2] {
+        let mut fails = Rows::new(alloc);
+        fails.push(call)?;
+        let mut source = SliceSource::new(Bytes::take(alloc, LINE.as_bytes())?, fails);
+        assert!(rt; matches!(read_script(alloc, &mut source), Err(ScriptRead::ReadFault)));
+    }
+    let mut fails = Rows::new(alloc);
+    fails.push(3)?;
+    let mut source = SliceSource::new(Bytes::take(alloc, LINE.as_bytes())?, fails);
+    assert!(rt; read_script(alloc, &mut source).is_ok());
+    Ok(())
+}
+
+#[test]
+fn faults_are_shown(rt: HostRuntime) -> Result<(), Fail> {
+    let fault = ScriptFault {
+        line: 2,
+        kind: ScriptKind::Text(TextFault::Shape),
+    };
+    let shown = format!(in rt.alloc(); "{}", ScriptRead::Fault(fault))?;
+    assert_eq!(rt; shown.as_str(), "line 2: the value is no object");
+    Ok(())
+}
+
+/// The answer to a script whose line inserts a document of that depth.
+fn nested_document(alloc: Global, depth: u32) -> Result<String, Fail> {
+    let mut text = String::from_str(
+        alloc,
+        "{\"lane\":1,\"op\":\"insert\",\"coll\":\"a\",\"doc\":",
+    )?;
+    for _ in 1..depth {
+        text.push_str("{\"a\":")?;
+    }
+    text.push_str("{}")?;
+    for _ in 1..depth {
+        text.push_str("}")?;
+    }
+    text.push_str("}")?;
+    let answer = answer_of(alloc, text.as_bytes())?;
+    if answer.as_str().starts_with("1 deep") {
+        return Ok(String::from_str(alloc, "1 deep")?);
+    }
+    Ok(answer)
+}
+
+/// A line so many times.
+fn repeated(alloc: Global, line: &str, times: u32) -> Result<String, AllocError> {
+    let mut text = String::new(alloc);
+    for _ in 0..times {
+        text.push_str(line)?;
+        text.push_str("\n")?;
+    }
+    Ok(text)
+}
+
+/// The answer to a script, as it is shown here.
+fn answer_of(alloc: Global, script: &[u8]) -> Result<String, Fail> {
+    let mut source = SliceSource::new(Bytes::take(alloc, script)?, Rows::new(alloc));
+    match read_script(alloc, &mut source) {
+        Ok(commands) => Ok(shown_commands(alloc, commands.as_slice())?),
+        Err(ScriptRead::Fault(fault)) => Ok(shown_fault(alloc, fault)?),
+        Err(ScriptRead::ReadFault) => Ok(String::from_str(alloc, "read fault")?),
+        Err(ScriptRead::Memory) => Ok(String::from_str(alloc, "memory")?),
+    }
+}
+
+fn shown_commands(alloc: Global, commands: &[Command]) -> Result<String, AllocError> {
+    let mut shown = String::new(alloc);
+    for command in commands {
+        let db = match &command.db {
+            Some(db) => db.as_str(),
+            None => "-",
+        };
+        let size = match &command.act {
+            Act::Insert { doc } => doc.elements.len(),
+            _ => 0,
+        };
+        let lane = command.lane;
+        let coll = command.coll.as_str();
+        shown.push_str(format!(in alloc; "{lane} {db} {coll} {size};")?.as_str())?;
+    }
+    Ok(shown)
+}
+
+fn shown_fault(alloc: Global, fault: ScriptFault) -> Result<String, AllocError> {
+    let ScriptFault { line, kind } = fault;
+    match kind {
+        ScriptKind::Json => format!(in alloc; "{line} json"),
+        ScriptKind::Shape => format!(in alloc; "{line} shape"),
+        ScriptKind::Lane => format!(in alloc; "{line} lane"),
+        ScriptKind::Long => format!(in alloc; "{line} long"),
+        ScriptKind::Text(TextFault::Fraction { path }) => format!(in alloc;
+            "{line} fraction {}",
+            path.as_str()
+        ),
+        ScriptKind::Text(TextFault::TooBig { path }) => format!(in alloc;
+            "{line} too big {}",
+            path.as_str()
+        ),
+        ScriptKind::Text(TextFault::Nul { path }) => format!(in alloc;
+            "{line} nul {}",
+            path.as_str()
+        ),
+        ScriptKind::Text(TextFault::Deep { path }) => format!(in alloc;
+            "{line} deep {}",
+            path.as_str()
+        ),
+        ScriptKind::Text(TextFault::Shape | TextFault::Memory) => format!(in alloc;
+            "{line} another text"
+        ),
+    }
+}

@@ -1,0 +1,75 @@
+//! Each public call on its happy path. Trails that are legal, and some that are not, stand in the crate `trail_worked`.
+use bson_doc::{Bytes, Lsid, Rows};
+use desk_trail::{CheckHow, Entry, OfferedHow, Purpose, Request, Room, TrailWriter, laws};
+use host_name::Host;
+use std::test::Fail;
+use topo_rules::TopoEvent;
+
+#[test]
+fn what_is_written_stands_in_order(rt: HostRuntime) -> Result<(), Fail> {
+    let mut writer = TrailWriter::new(rt.alloc());
+    writer.reserve(Room {
+        names: 1,
+        events: 1,
+        sessions: 1,
+        requests: 1,
+        steps: 6,
+    })?;
+    writer.name(5, Host::parse(rt.alloc(), "a")?);
+    let request = Request {
+        stream: 9,
+        id: 1,
+        purpose: Purpose::Check { host: 0 },
+        bytes: Bytes::new(rt.alloc()),
+    };
+    writer.append(6, Entry::CheckBegan { host: 0, stream: 9 });
+    writer.ask(6, request);
+    writer.append(
+        7,
+        Entry::CheckEnded {
+            host: 0,
+            how: CheckHow::Cut,
+        },
+    );
+    let event = TopoEvent::Broken {
+        host: Host::parse(rt.alloc(), "a")?,
+        generation: None,
+    };
+    writer.offer(7, event, OfferedHow::Accepted { differs: false });
+    writer.lease(8, 3, Lsid([7; 16]));
+    assert_eq!(rt; writer.names().len(), 1);
+    assert_eq!(rt; writer.events().len(), 1);
+    assert_eq!(rt; writer.sessions().len(), 1);
+    assert_eq!(rt; writer.requests().len(), 1);
+    assert_eq!(rt; writer.steps().len(), 6);
+    let trail = writer.into_trail();
+    let steps = trail.steps.as_slice();
+    assert_eq!(rt; steps.len(), 6);
+    assert!(rt; matches!(steps.first(), Some(step) if step.moment == 5));
+    assert!(rt; matches!(steps.last(), Some(step) if step.moment == 8));
+    Ok(())
+}
+
+#[test]
+fn laws_are_called(rt: HostRuntime) {
+    laws::places::a_trail_is_legal_place_by_place();
+    laws::places::the_front_of_a_legal_trail_is_legal();
+    laws::places::a_legal_trail_is_legal_by_longer_lists();
+    laws::places::moments_never_fall();
+    laws::places::what_is_owed_comes_next();
+    laws::pools::each_pool_has_its_trail();
+    laws::pools::each_command_is_where_its_pool_has_it();
+    laws::pools::no_two_commands_have_one_ticket();
+    laws::pools::no_connection_is_lent_to_two();
+    laws::pools::each_lent_connection_was_free();
+    laws::pools::each_lent_connection_is_current();
+    laws::sessions::sessions_have_their_history();
+    laws::sessions::a_command_draws_once();
+    laws::sessions::a_session_is_one_commands();
+    laws::sessions::no_number_is_drawn_twice();
+    laws::topology::the_topology_is_of_its_accepted_events();
+    laws::topology::means_are_of_samples();
+    laws::commands::each_command_has_its_history();
+    laws::commands::each_answer_is_the_verdict_on_the_attempts();
+    laws::commands::behind_its_answer_no_entry_is_of_a_command();
+}

@@ -1,0 +1,83 @@
+//! Streams over a net that follows a script. What is written comes in the stories of the crates above.
+use crate::seeds::one_seed;
+use bson_doc::{Bytes, Rows};
+use desk_wire::Pulled;
+use host_name::Host;
+use net_link::{Dialed, ScriptNet, StreamPlan};
+use std::alloc::Global;
+use std::test::Fail;
+use wired_trail::{Memory, StreamUse, WiredTrail};
+
+/// A net of so many streams on which nothing comes; the first one ends at once.
+fn silent(alloc: Global, streams: u32) -> Result<ScriptNet, Memory> {
+    let mut plans = Rows::new(alloc);
+    for number in 0..streams {
+        plans.push(StreamPlan {
+            bytes: Bytes::new(alloc),
+            most: 1,
+            ends: number == 0,
+        })?;
+    }
+    Ok(ScriptNet::new(alloc, plans, Rows::new(alloc)))
+}
+
+/// A client of one seed over such a net.
+fn fresh(alloc: Global, streams: u32) -> Result<WiredTrail<ScriptNet>, Fail> {
+    let seed = Host::parse(alloc, "a")?;
+    let settings = one_seed(alloc, &seed)?;
+    let net = silent(alloc, streams)?;
+    Ok(WiredTrail::new(alloc, settings, Rows::new(alloc), 5, net))
+}
+
+/// Dials a stream, and takes a turn on it.
+fn dial_and_turn(
+    wired: &mut WiredTrail<ScriptNet>,
+    alloc: Global,
+    is_for: StreamUse,
+) -> Option<Pulled> {
+    let Dialed::Stream(stream) = wired.dial(alloc, "a:1", is_for) else {
+        return None;
+    };
+    Some(wired.turn(alloc, stream))
+}
+
+/// Dials a stream, and closes it; whether it is in use then.
+fn dial_and_close(
+    wired: &mut WiredTrail<ScriptNet>,
+    alloc: Global,
+    is_for: StreamUse,
+) -> Option<bool> {
+    let Dialed::Stream(stream) = wired.dial(alloc, "a:1", is_for) else {
+        return None;
+    };
+    wired.close(stream);
+    Some(wired.use_of(stream).is_some())
+}
+
+/// How many of each it shows: seeds, commands, names, events, sessions, requests, steps.
+fn counts(wired: &WiredTrail<ScriptNet>) -> [usize; 7] {
+    [
+        wired.settings().hosts.len(),
+        wired.commands().len(),
+        wired.names().len(),
+        wired.events().len(),
+        wired.sessions().len(),
+        wired.requests().len(),
+        wired.steps().len(),
+    ]
+}
+
+#[test]
+fn streams_come_and_go(rt: HostRuntime) -> Result<(), Fail> {
+    let mut wired = fresh(rt.alloc(), 3)?;
+    assert!(rt; counts(&wired) == [1, 0, 0, 0, 0, 0, 0]);
+    let ended = dial_and_turn(&mut wired, rt.alloc(), StreamUse::Check { host: 0 });
+    assert!(rt; matches!(ended, Some(Pulled::End)));
+    let shut = dial_and_close(&mut wired, rt.alloc(), StreamUse::Conn { host: 0, conn: 1 });
+    assert!(rt; matches!(shut, Some(false)));
+    let dry = dial_and_turn(&mut wired, rt.alloc(), StreamUse::Conn { host: 0, conn: 2 });
+    assert!(rt; matches!(dry, Some(Pulled::NotYet)));
+    let finished = wired.finish();
+    assert_eq!(rt; finished.net.events().len(), 8);
+    Ok(())
+}

@@ -144,6 +144,11 @@ impl FieldName {
 }
 
 impl fmt::Display for FieldName {
+    ghost use Rattle.std.specs.Prelude.{Some};
+    ghost use Rattle.hello_reply.specs.Fields.{name_of};
+
+    ghost output = { λ f. Some (name_of f) };
+
     fn fmt<W: fmt::Write>(&self, f: &mut fmt::Formatter<W>) -> fmt::Result {
         write!(f, "{}", self.name())
     }

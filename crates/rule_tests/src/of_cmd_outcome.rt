@@ -1,4 +1,4 @@
-//! A reply that says nothing. The crate `cmd_cases` runs tables of replies.
+//! A reply that says nothing. The crate `wire_cases` runs tables of replies.
 use bson_doc::Document;
 use cmd_outcome::classify;
 

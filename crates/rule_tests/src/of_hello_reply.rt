@@ -1,4 +1,4 @@
-//! Each public call on its happy path, and printed text. The crate `topo_cases` runs tables of replies, versions and faults.
+//! Each public call on its happy path, and printed text. The crate `rule_cases` runs tables of replies, versions and faults.
 use bson_doc::{Document, Name, Oid, Text, TopologyVersion, Value};
 use hello_reply::{
     ReplyFault, ServerDescription, ServerKind, compare_version, default_unknown, describe,

@@ -94,7 +94,7 @@ const LINES: [(&str, &str); 94] = [
         r#"{"lane":1,"op":"insert","coll":"a","doc":1.5}"#,
         "1 shape",
     ),
-    // No commands. The other commands stand in the case files of `script_cases`.
+    // No commands. The other commands stand in the case files of `wire_cases`.
     (r#"{"lane":1,"op":"update","coll":"a","doc":{}}"#, "1 shape"),
     (r#"{"lane":1,"op":"Insert","coll":"a","doc":{}}"#, "1 shape"),
     (
@@ -413,10 +413,14 @@ fn nested_document(alloc: Global, depth: u32) -> Result<String, Fail> {
 fn repeated(alloc: Global, line: &str, times: u32) -> Result<String, AllocError> {
     let mut text = String::new(alloc);
     for _ in 0..times {
-        text.push_str(line)?;
-        text.push_str("\n")?;
+        push_line(&mut text, line)?;
     }
     Ok(text)
+}
+
+fn push_line(text: &mut String, line: &str) -> Result<(), AllocError> {
+    text.push_str(line)?;
+    text.push_str("\n")
 }
 
 /// The answer to a script, as it is shown here.

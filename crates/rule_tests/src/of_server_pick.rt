@@ -1,4 +1,4 @@
-//! Each public call on its happy path, with a picker and loads of their own types. The crate `pick_cases` runs tables.
+//! Each public call on its happy path, with a picker and loads of their own types. The crate `rule_cases` runs tables.
 use bson_doc::{Rows, Text};
 use hello_reply::{ServerKind, default_unknown};
 use host_name::Host;

@@ -1,4 +1,4 @@
-//! Each public call on its happy path. The crate `topo_cases` runs scenarios, changes and readings.
+//! Each public call on its happy path. The crate `rule_cases` runs scenarios, changes and readings.
 use bson_doc::{Document, Name, Oid, Rows, Text, Value};
 use hello_reply::{ServerKind, default_unknown, describe};
 use host_name::Host;
@@ -21,12 +21,17 @@ fn primary(alloc: Global, host: &Host) -> Result<TopoEvent, Fail> {
     })
 }
 
-fn started(alloc: Global, name: &str) -> Result<Topology, Fail> {
-    let hosts = [Host::parse(alloc, name)?];
-    if !Topology::may_start(alloc, &hosts, false)? {
+/// A topology without a set's name that starts with these hosts.
+fn start_of(alloc: Global, hosts: &[Host]) -> Result<Topology, Fail> {
+    if !Topology::may_start(alloc, hosts, false)? {
         return Err(Fail::from("no hosts to start with"));
     }
-    Ok(Topology::start(alloc, &hosts, None, false)?)
+    Ok(Topology::start(alloc, hosts, None, false)?)
+}
+
+fn started(alloc: Global, name: &str) -> Result<Topology, Fail> {
+    let host = Host::parse(alloc, name)?;
+    start_of(alloc, &[host])
 }
 
 #[test]

@@ -1,4 +1,4 @@
-//! Which outcomes are successes, and the calls of one command. The crate `op_cases` runs tables of attempts.
+//! Which outcomes are successes, and the calls of one command. The crate `rule_cases` runs tables of attempts.
 use write_retry::laws::{
     a_second_server_is_selected_to_repeat, a_server_is_selected_where_one_more_may_be,
     answers_are_verdicts, without_a_number_sent_once,

@@ -95,16 +95,18 @@ fn held_kinds(alloc: Global) -> Result<Document, Fail> {
             oid: Oid([7; 12]),
         },
     )?;
+    document.push(name(alloc, "scope")?, code_with_scope(alloc)?)?;
+    Ok(document)
+}
+
+/// The code `x` with a number in its scope.
+fn code_with_scope(alloc: Global) -> Result<Value, Fail> {
     let mut scope = Document::new(alloc);
     scope.push(name(alloc, "x")?, Value::Int64(-1))?;
-    document.push(
-        name(alloc, "scope")?,
-        Value::Scope {
-            code: Text::take(alloc, "x")?,
-            scope,
-        },
-    )?;
-    Ok(document)
+    Ok(Value::Scope {
+        code: Text::take(alloc, "x")?,
+        scope,
+    })
 }
 
 fn is_binary(value: Option<&Value>, wanted: u8, held: &[u8]) -> bool {

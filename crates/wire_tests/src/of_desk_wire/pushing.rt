@@ -5,6 +5,7 @@ use crate::pieces_net::PiecesNet;
 use bson_doc::Bytes;
 use desk_wire::{Pushed, Wire};
 use net_link::{Dialed, Net, NetEvent};
+use std::alloc::Global;
 use std::test::Fail;
 
 #[test]
@@ -59,6 +60,17 @@ fn a_stream_that_fails_at_a_write(rt: HostRuntime) -> Result<(), Fail> {
     Ok(())
 }
 
+/// The bytes that went out, in order.
+fn sent(alloc: Global, events: &[NetEvent]) -> Result<Vec<u8>, Fail> {
+    let mut out = Vec::new(alloc);
+    for event in events {
+        if let NetEvent::Out { bytes, .. } = event {
+            out.extend_from_slice(bytes.as_slice())?;
+        }
+    }
+    Ok(out)
+}
+
 #[test]
 fn what_was_queued_goes_out_once(rt: HostRuntime) -> Result<(), Fail> {
     let alloc = rt.alloc();
@@ -78,12 +90,6 @@ fn what_was_queued_goes_out_once(rt: HostRuntime) -> Result<(), Fail> {
     let Pushed::Done = wire.push(&mut net) else {
         return Err(Fail::from("not sent"));
     };
-    let mut out = Vec::new(alloc);
-    for event in net.events() {
-        if let NetEvent::Out { bytes, .. } = event {
-            out.extend_from_slice(bytes.as_slice())?;
-        }
-    }
-    assert_eq!(rt; out.as_slice(), b"onetwo".as_slice());
+    assert_eq!(rt; sent(alloc, net.events())?.as_slice(), b"onetwo".as_slice());
     Ok(())
 }

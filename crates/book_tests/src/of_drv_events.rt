@@ -1,5 +1,5 @@
 //! Boxed listeners of two types. What a boxed listener heard nobody else sees: one of them leaves when it has heard just what
-//! it is to hear. The crate `event_cases` tells events to listeners whose lists are seen.
+//! it is to hear. The crate `book_cases` tells events to listeners whose lists are seen.
 use crate::expects::Expects;
 use bson_doc::Rows;
 use drv_events::laws::{all_are_counted, each_heard_what_was_told_since};

@@ -1,4 +1,4 @@
-//! Each public call on its happy path, and what a book is at a bound. The crate `pool_cases` runs calls and their answers.
+//! Each public call on its happy path, and what a book is at a bound. The crate `book_cases` runs calls and their answers.
 use pool_book::{Fate, PoolBook, PoolRules, PoolState, Settled, Take};
 use std::alloc::Global;
 use std::test::Fail;

@@ -1,4 +1,4 @@
-//! Each public call on its happy path. The crate `topo_cases` runs tables of offers.
+//! Each public call on its happy path. The crate `rule_cases` runs tables of offers.
 use hello_reply::{ServerKind, default_unknown};
 use host_name::Host;
 use std::alloc::Global;

@@ -1,16 +1,30 @@
 -- The phases of a command's step, one after another.
-use Rattle.std.proofs.Common.{◌≡◌, ◌≤◌, ℕ, zero, suc, List, [], ◌∷◌, Some, refl, sym, ap, ◌∙◌, arith}
-use Rattle.std.specs.Prelude.{OnOk, slice_get, slice_set}
+use Rattle.std.proofs.Common.{◌≡◌, ◌≤◌, ℕ, zero, suc, Bool, List, [], ◌∷◌, ◌++◌, Some, inl, inr, refl, sym, ap, ◌∙◌, append_assoc, subst, arith}
+use Rattle.std.specs.Prelude.{IfOk, OnOk, slice_get, slice_set}
 use Rattle.std.specs.declared.result.Result.{Result}
 use Rattle.std.specs.declared.result.Result.TheVariants.{Ok, Err}
+use Rattle.bson_doc.specs.declared.ids.Lsid.{Lsid}
 use Rattle.net_link.specs.Causes.{Rose}
+use Rattle.server_pick.specs.declared.candidate.Candidate.{Candidate}
+use Rattle.sess_book.specs.Ids.{id_of}
 use Rattle.sess_book.specs.Sessions.{Sessions}
-use Rattle.desk_trail.specs.States.{CommandState}
+use Rattle.desk_trail.specs.declared.entry.Entry.TheVariants as entry
+use Rattle.desk_trail.specs.declared.step.Step.{Step}
+use Rattle.desk_trail.specs.Clients.{Client}
+use Rattle.desk_trail.specs.States.{ClientState, CommandState}
+use Rattle.desk_trail.specs.Written.{step_of}
 use Rattle.legal_trail.specs.Recorded.{Recorded}
 use Rattle.desk_core.specs.Appends.{Appends}
 use Rattle.desk_core.specs.Commands.{HasGone, IsAtWork, IsInStep, MovesLease, MovesOne}
 use Rattle.desk_core.specs.Kept.{IsReady}
+use Rattle.desk_core.specs.Looks.{HasLooked, IsAnswerOf}
 use Rattle.desk_core.specs.State.{Core}
+use Rattle.desk_core.specs.Steps.{HasFound, IsWaiting, MeansEntry, MeansGoing, MeansPhase, MeansStep}
+use Rattle.desk_core.specs.declared.progress.Progress.{Progress}
+use Rattle.desk_core.specs.declared.progress.Progress.TheVariants as progress
+use Rattle.desk_core.specs.declared.sight.Sight.{Sight}
+use Rattle.desk_core.specs.declared.sight.Sight.TheVariants as sight
+use Rattle.desk_core.specs.declared.words.Words.{Words}
 use Rattle.desk_core.proofs.AppendsLemmas.{grown-trans, grown-weaken}
 use Rattle.desk_core.proofs.ServerLemmas.{slice_get-set_same}
 
@@ -104,3 +118,75 @@ HasGone-then {N} d e f moment op c x s t a b = record {
   step = b.step;
   commands = b.commands ∙ ap (λ cs. slice_set cs op x) a.commands ∙ slice_set-set d.trail.point.state.commands op c x;
 }
+
+-- ---- What an answer means
+
+-- of one client as of another that is the same
+pub IsWaiting-client : (a b : Client) (w : ClientState) (moment until : ℕ) (c : CommandState) → b ≡ a → IsWaiting a w moment until c → IsWaiting b w moment until c
+IsWaiting-client a b w moment until c same h = subst (λ (x : Client). IsWaiting x w moment until c) (sym same) h
+
+-- phases of which none leases a session answer as those do of which one may
+pub MeansEntry-phase : (client : Client) (w : ClientState) (moment : ℕ) (own : Lsid) (c : CommandState) (p : Progress) → MeansPhase client w moment c p → MeansEntry client w moment own c p
+MeansEntry-phase client w moment own c progress.Done h = h
+MeansEntry-phase client w moment own c (progress.Wait until) h = h
+MeansEntry-phase client w moment own c progress.Again h = absurd h
+
+pub IfOk-by : {A E : Type 0} (r : Result A E) (P Q : A → Type 0) → ((a : A) → P a → Q a) → IfOk r P → IfOk r Q
+IfOk-by (Ok a) P Q f h = f a h
+IfOk-by (Err e) P Q f h = h
+
+-- a step that did not look answers as any step does
+pub MeansStep-going : (moment op : ℕ) (words : Words) (old new : Recorded) (s : Sight) → MeansGoing moment op (id_of words.c words.d) new s → MeansStep moment op words old new s
+MeansStep-going moment op words old new sight.Answered h = h
+MeansStep-going moment op words old new (sight.Wait until) h = h
+MeansStep-going moment op words old new sight.Again h = inl h
+
+-- the look that it made stands among the entries, with those ahead of it and behind it
+pub HasFound-more : {R : Type 0} (moment op a b : ℕ) (old between new : Recorded) → HasFound moment op a b old between → Appends R moment between new → HasFound moment op a b old new
+HasFound-more {R} moment op a b old between new f g =
+    let look : Step = step_of moment (entry.Looked op a b f.kept f.how) in
+    record {
+      ahead = f.ahead;
+      kept = f.kept;
+      how = f.how;
+      rest = f.rest ++ g.added;
+      steps = g.steps ∙ ap (λ (xs : List Step). xs ++ g.added) f.steps ∙ append_assoc old.steps (f.ahead ++ look ∷ f.rest) g.added
+          ∙ ap (λ (xs : List Step). old.steps ++ xs) (append_assoc f.ahead (look ∷ f.rest) g.added);
+      found = f.found;
+    }
+
+pub HasFound-behind : {R : Type 0} (moment op a b : ℕ) (old between new : Recorded) → Appends R moment old between → HasFound moment op a b between new → HasFound moment op a b old new
+HasFound-behind {R} moment op a b old between new g f =
+    let look : Step = step_of moment (entry.Looked op a b f.kept f.how) in
+    record {
+      ahead = g.added ++ f.ahead;
+      kept = f.kept;
+      how = f.how;
+      rest = f.rest;
+      steps = f.steps ∙ ap (λ (xs : List Step). xs ++ (f.ahead ++ look ∷ f.rest)) g.steps ∙ append_assoc old.steps g.added (f.ahead ++ look ∷ f.rest)
+          ∙ ap (λ (xs : List Step). old.steps ++ xs) (sym (append_assoc g.added f.ahead (look ∷ f.rest)));
+      found = f.found;
+    }
+
+-- a look that was answered by going on found a server, or that there can be none
+pub HasFound-looked : {P : Type 0} (allows : P → Candidate → Bool) (follows : P → Candidate → P → Type 0) (failed : Type 0) (moment op a b : ℕ) (c : CommandState) (old new : Recorded)
+    (p q : P) (answer : Progress) → answer ≡ progress.Done → HasLooked allows follows failed moment op a b c old new p q answer → HasFound moment op a b old new
+HasFound-looked {P} allows follows failed moment op a b c old new p q answer done h =
+    let look : Step = step_of moment (entry.Looked op a b h.kept h.how) in
+    record {
+      ahead = h.grows.added;
+      kept = h.kept;
+      how = h.how;
+      rest = h.rest;
+      steps = h.steps ∙ ap (λ (xs : List Step). xs ++ look ∷ h.rest) h.grows.steps ∙ append_assoc old.steps h.grows.added (look ∷ h.rest);
+      found = subst (λ x. IsAnswerOf x h.how) done h.answers;
+    }
+
+-- an answer that goes on in the same step, behind more entries
+pub MeansStep-behind : {R : Type 0} (moment op : ℕ) (words : Words) (old between new : Recorded) (s : Sight) → Appends R moment old between →
+    MeansStep moment op words between new s → MeansStep moment op words old new s
+MeansStep-behind {R} moment op words old between new sight.Answered g h = h
+MeansStep-behind {R} moment op words old between new (sight.Wait until) g h = h
+MeansStep-behind {R} moment op words old between new sight.Again g (inl h) = inl h
+MeansStep-behind {R} moment op words old between new sight.Again g (inr h) =
+    inr (record { selects = h.selects; found = HasFound-behind moment op words.a words.b old between new g h.found })

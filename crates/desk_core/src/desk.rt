@@ -147,7 +147,8 @@ impl<N: Net, P: Picker> Desk<N, P> {
     /// Sessions; Retryable Writes). The command is there and is not answered. `moment` is in microseconds; what is appended to the
     /// trail has the moment of the step, which is no earlier than the last one's. `Answered` says that the command was answered;
     /// `Wait` that it waits, until a later moment, for a server, a connection or the net; `Again` that its next step goes on at
-    /// once. After `Memory` the desk is stopped.
+    /// once: it found no session to lease, since the id of `words.c` and `words.d` was used before, and leases one by other words;
+    /// or its attempt ended behind this step's look, and it looks for a server once more. After `Memory` the desk is stopped.
     pub fn step_op(
         &mut self,
         alloc: Global,
@@ -158,7 +159,7 @@ impl<N: Net, P: Picker> Desk<N, P> {
         requires runs { self.old.is_stopped ≡ false }
         requires there { AtCommand self.old.trail.point.state op (λ c. c.is_finished ≡ false) }
         ensures now { self.new.last ≡ now_of self.old.last moment }
-        ensures sight { IfOk result (MeansStep self.new.trail.client self.new.trail.point.state (now_of self.old.last moment) op) }
+        ensures sight { IfOk result (MeansStep (now_of self.old.last moment) op words self.old.trail self.new.trail) }
         ensures appends { Appends (Rose (N.faults self.old.net) (N.faults self.new.net)) (now_of self.old.last moment) self.old.trail self.new.trail }
         ensures ok { OnOk result (self.new.is_stopped ≡ false) }
         ensures err { OnErr result (self.new.is_stopped ≡ true) }

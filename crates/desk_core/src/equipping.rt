@@ -1,15 +1,17 @@
 //! What a command needs at its choice: its session, and its transaction number (Driver Sessions; Retryable Writes).
 ghost use Rattle.std.specs.Prelude.{◌≡◌, ◌≤◌, ◌+◌, ℕ, true, false, None, Some, IfOk, OnOk, is_some, slice_get};
 ghost use Rattle.net_link.specs.Causes.{Rose};
+ghost use Rattle.sess_book.specs.Ids.{id_of};
 ghost use Rattle.desk_trail.specs.Leases.{IsEquipped, is_at_choice, minutes_needed, needs_number};
 ghost use Rattle.desk_trail.specs.States.{CommandState};
 ghost use Rattle.sess_step.specs.Choices.{AreIds};
+ghost use Rattle.sess_step.specs.Moves.{IsRepeated};
 ghost use Rattle.trail_laws.specs.Holding.{IsHeldFor};
 ghost use Rattle.desk_core.specs.Appends.{Appends};
 ghost use Rattle.desk_core.specs.Commands.{IsAtWork, MovesLease};
 ghost use Rattle.desk_core.specs.Equips.{KeepsCourse};
 ghost use Rattle.desk_core.specs.Kept.{IsReady};
-ghost use Rattle.desk_core.specs.Steps.{MeansPhase};
+ghost use Rattle.desk_core.specs.Steps.{MeansEntry};
 ghost use Rattle.desk_core.specs.declared.progress.Progress.TheVariants as progress;
 
 use crate::Memory;
@@ -45,8 +47,8 @@ pub(crate) fn each_session_is_held<N: Net>(wired: &WiredTrail<N>)
 }
 
 impl<N: Net> Core<N> {
-    /// A command at its choice leases the session that it needs. False where the id of the words was used before: nothing changed,
-    /// and it leases one by other words.
+    /// A command at its choice leases the session that it needs. False where it found none, since the id of the words was used
+    /// before: nothing changed, and it leases one by other words.
     fn lease_one(
         &mut self,
         at: CommandAt,
@@ -63,6 +65,8 @@ impl<N: Net> Core<N> {
         ensures moves { OnOk result (MovesLease at.op running.new sessions.new self.old.trail self.new.trail) }
         ensures late { OnOk result (sessions.new.last ≤ at.moment) }
         ensures leased { IfOk result (λ r. r ≡ true → minutes_needed running.new ≡ None) }
+        ensures repeated { IfOk result (λ r. r ≡ false → (is_at_choice running.new.op.next ≡ true)
+            × IsRepeated sessions.new at.moment running.new (id_of words.first words.second)) }
         ensures kept { KeepsCourse running.old running.new }
         ensures appends { Appends ⊥ at.moment self.old.trail self.new.trail }
         ensures net { self.new.net ≡ self.old.net }
@@ -134,7 +138,7 @@ impl<N: Net> Core<N> {
         ensures late { OnOk result (sessions.new.last ≤ moment) }
         ensures equipped { IfOk result (λ p. p ≡ progress.Done → IsEquipped operation.new) }
         ensures kept { KeepsCourse operation.old operation.new }
-        ensures means { IfOk result (MeansPhase self.old.trail.client self.new.trail.point.state moment operation.new) }
+        ensures means { IfOk result (MeansEntry self.old.trail.client self.new.trail.point.state moment (id_of words.first words.second) operation.new) }
         ensures appends { Appends (Rose (N.faults self.old.net) (N.faults self.new.net)) moment self.old.trail self.new.trail }
         ensures faults { N.faults self.old.net ≤ N.faults self.new.net }
         ensures net { self.new.net ≡ self.old.net }

@@ -1,13 +1,15 @@
 //! A command goes on, from one phase to the next, as far as it can without waiting (CMAP, Checking Out a Connection; Retryable
 //! Writes, Executing Retryable Write Commands).
 ghost use Rattle.std.specs.Prelude.{◌≡◌, ◌≤◌, true, false, IfNone, IfOk, IfSome, OnOk, slice_set};
+ghost use Rattle.bson_doc.specs.declared.ids.Lsid.{Lsid};
 ghost use Rattle.net_link.specs.Causes.{Rose};
+ghost use Rattle.sess_book.specs.Ids.{id_of};
 ghost use Rattle.write_retry.specs.declared.events.Next.TheVariants as next_of;
 ghost use Rattle.sess_step.specs.Choices.{AreIds};
 ghost use Rattle.desk_core.specs.Appends.{Appends};
 ghost use Rattle.desk_core.specs.Commands.{HasGone, IsAtWork, IsInStep, IsShallow, MovesOne};
 ghost use Rattle.desk_core.specs.Kept.{IsReady};
-ghost use Rattle.desk_core.specs.Steps.{MeansPhase, MeansStep};
+ghost use Rattle.desk_core.specs.Steps.{MeansEntry, MeansGoing, MeansPhase};
 
 use crate::operation::Operation;
 use crate::progress::Progress;
@@ -31,7 +33,7 @@ impl<N: Net> Core<N> {
     ) -> Result<Progress, Memory>
         requires step { IsInStep self.old at.moment at.op operation.old sessions.old }
         ensures gone { OnOk result (HasGone self.old self.new at.moment at.op operation.new sessions.new) }
-        ensures means { IfOk result (MeansPhase self.old.trail.client self.new.trail.point.state at.moment operation.new) }
+        ensures means { IfOk result (MeansEntry self.old.trail.client self.new.trail.point.state at.moment (id_of words.first words.second) operation.new) }
         ensures appends { Appends (Rose (N.faults self.old.net) (N.faults self.new.net)) at.moment self.old.trail self.new.trail }
         ensures faults { N.faults self.old.net ≤ N.faults self.new.net }
     {
@@ -204,7 +206,7 @@ impl<N: Net> Core<N> {
     ) -> Result<Option<Sight>, Memory>
         requires step { IsInStep self.old at.moment at.op operation.old sessions.old }
         ensures gone { OnOk result (HasGone self.old self.new at.moment at.op operation.new sessions.new) }
-        ensures sight { IfOk result (λ r. IfSome r (MeansStep self.old.trail.client self.new.trail.point.state at.moment at.op)) }
+        ensures sight { (own : Lsid) → IfOk result (λ r. IfSome r (MeansGoing at.moment at.op own self.new.trail)) }
         ensures looks { IfOk result (λ r. IfNone r (operation.new.op.next ≡ next_of.Select)) }
         ensures appends { Appends (Rose (N.faults self.old.net) (N.faults self.new.net)) at.moment self.old.trail self.new.trail }
         ensures faults { N.faults self.old.net ≤ N.faults self.new.net }
@@ -232,7 +234,7 @@ impl<N: Net> Core<N> {
         requires step { IsInStep self.old at.moment at.op operation.old sessions.old }
         requires levels { IsShallow self.old.trail.client at.op }
         ensures gone { OnOk result (HasGone self.old self.new at.moment at.op operation.new sessions.new) }
-        ensures means { IfOk result (MeansPhase self.old.trail.client self.new.trail.point.state at.moment operation.new) }
+        ensures means { IfOk result (MeansEntry self.old.trail.client self.new.trail.point.state at.moment (id_of words.first words.second) operation.new) }
         ensures appends { Appends (Rose (N.faults self.old.net) (N.faults self.new.net)) at.moment self.old.trail self.new.trail }
         ensures faults { N.faults self.old.net ≤ N.faults self.new.net }
     {
@@ -256,7 +258,7 @@ impl<N: Net> Core<N> {
         requires step { IsInStep self.old at.moment at.op operation.old sessions.old }
         requires levels { IsShallow self.old.trail.client at.op }
         ensures gone { OnOk result (HasGone self.old self.new at.moment at.op operation.new sessions.new) }
-        ensures sight { IfOk result (λ r. IfSome r (MeansStep self.old.trail.client self.new.trail.point.state at.moment at.op)) }
+        ensures sight { IfOk result (λ r. IfSome r (MeansGoing at.moment at.op (id_of words.first words.second) self.new.trail)) }
         ensures looks { IfOk result (λ r. IfNone r (operation.new.op.next ≡ next_of.Select)) }
         ensures appends { Appends (Rose (N.faults self.old.net) (N.faults self.new.net)) at.moment self.old.trail self.new.trail }
         ensures faults { N.faults self.old.net ≤ N.faults self.new.net }

@@ -1,11 +1,13 @@
 //! A step of a command: it goes on as far as it can without waiting, through at most one look for a server.
 ghost use Rattle.std.specs.Prelude.{◌≡◌, ◌≤◌, IfNone, IfOk, IfSome, OnOk};
 ghost use Rattle.net_link.specs.Causes.{Rose};
+ghost use Rattle.sess_book.specs.Ids.{id_of};
 ghost use Rattle.write_retry.specs.declared.events.Next.TheVariants as next_of;
 ghost use Rattle.desk_core.specs.Appends.{Appends};
 ghost use Rattle.desk_core.specs.Commands.{HasGone, IsInStep, IsShallow};
 ghost use Rattle.desk_core.specs.Counts.{IsCounted};
-ghost use Rattle.desk_core.specs.Steps.{MeansPhase, MeansStep};
+ghost use Rattle.desk_core.specs.Steps.{HasFound, MeansGoing, MeansPhase, MeansStep};
+ghost use Rattle.desk_core.specs.declared.progress.Progress.TheVariants as progress;
 
 use crate::counts::selected_host;
 use crate::looking::Looker;
@@ -34,7 +36,7 @@ impl<N: Net> Core<N> {
         requires levels { IsShallow self.old.trail.client at.op }
         ensures gone { OnOk result (HasGone self.old self.new at.moment at.op operation.new parts.new.sessions) }
         ensures counted { OnOk result (IsCounted parts.new.in_flight self.new.trail.point.state.commands) }
-        ensures sight { IfOk result (λ r. IfSome r (MeansStep self.old.trail.client self.new.trail.point.state at.moment at.op)) }
+        ensures sight { IfOk result (λ r. IfSome r (MeansGoing at.moment at.op (id_of words.c words.d) self.new.trail)) }
         ensures looks { IfOk result (λ r. IfNone r (operation.new.op.next ≡ next_of.Select)) }
         ensures picker { parts.new.picker ≡ parts.old.picker }
         ensures appends { Appends (Rose (N.faults self.old.net) (N.faults self.new.net)) at.moment self.old.trail self.new.trail }
@@ -66,6 +68,7 @@ impl<N: Net> Core<N> {
         ensures gone { OnOk result (HasGone self.old self.new at.moment at.op operation.new parts.new.sessions) }
         ensures counted { OnOk result (IsCounted parts.new.in_flight self.new.trail.point.state.commands) }
         ensures means { IfOk result (MeansPhase self.old.trail.client self.new.trail.point.state at.moment operation.new) }
+        ensures found { IfOk result (λ p. p ≡ progress.Done → HasFound at.moment at.op words.a words.b self.old.trail self.new.trail) }
         ensures appends { Appends (Rose (N.faults self.old.net) (N.faults self.new.net)) at.moment self.old.trail self.new.trail }
         ensures faults { N.faults self.old.net ≤ N.faults self.new.net }
     {
@@ -102,7 +105,7 @@ impl<N: Net> Core<N> {
         requires selects { operation.old.op.next ≡ next_of.Select }
         ensures gone { OnOk result (HasGone self.old self.new at.moment at.op operation.new parts.new.sessions) }
         ensures counted { OnOk result (IsCounted parts.new.in_flight self.new.trail.point.state.commands) }
-        ensures sight { IfOk result (MeansStep self.old.trail.client self.new.trail.point.state at.moment at.op) }
+        ensures sight { IfOk result (MeansStep at.moment at.op words self.old.trail self.new.trail) }
         ensures appends { Appends (Rose (N.faults self.old.net) (N.faults self.new.net)) at.moment self.old.trail self.new.trail }
         ensures faults { N.faults self.old.net ≤ N.faults self.new.net }
     {
@@ -112,7 +115,7 @@ impl<N: Net> Core<N> {
                 None => Ok(Sight::Again),
             },
             Progress::Wait { until } => Ok(Sight::Wait { until }),
-            Progress::Again => Ok(Sight::Again),
+            Progress::Again => unreachable!(),
         }
     }
 
@@ -130,7 +133,7 @@ impl<N: Net> Core<N> {
         requires levels { IsShallow self.old.trail.client at.op }
         ensures gone { OnOk result (HasGone self.old self.new at.moment at.op operation.new parts.new.sessions) }
         ensures counted { OnOk result (IsCounted parts.new.in_flight self.new.trail.point.state.commands) }
-        ensures sight { IfOk result (MeansStep self.old.trail.client self.new.trail.point.state at.moment at.op) }
+        ensures sight { IfOk result (MeansStep at.moment at.op words self.old.trail self.new.trail) }
         ensures appends { Appends (Rose (N.faults self.old.net) (N.faults self.new.net)) at.moment self.old.trail self.new.trail }
         ensures faults { N.faults self.old.net ≤ N.faults self.new.net }
     {

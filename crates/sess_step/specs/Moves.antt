@@ -1,9 +1,9 @@
 -- What a command does with its session: the entry, and what it leaves (Driver Sessions; Retryable Writes).
-use Rattle.std.specs.Prelude.{◌≡◌, ℕ, ℤ, Bool, true, false, List, [], ◌∷◌, ◌++◌, None, Some, length, slice_get, slice_set}
+use Rattle.std.specs.Prelude.{◌≡◌, ℕ, ℤ, Bool, true, false, List, [], ◌∷◌, ◌++◌, None, Some, All, length, slice_get, slice_set}
 use Rattle.bson_doc.specs.declared.ids.Lsid.{Lsid}
 use Rattle.entry_judge.specs.Groups.{Goes}
 use Rattle.sess_book.specs.Entries.{Drew, Returned, sessions_judge}
-use Rattle.sess_book.specs.Sessions.{Sessions, is_used}
+use Rattle.sess_book.specs.Sessions.{Sessions, has_minute_left, is_used}
 use Rattle.desk_trail.specs.Facts.{Lists}
 use Rattle.desk_trail.specs.Facts as fact
 use Rattle.desk_trail.specs.Leases.{minutes_needed}
@@ -48,11 +48,19 @@ pub record IsLeased (old new : Recorded) (at : CommandAt) (s t : Sessions) (c d 
   pub holds : d ≡ record c { session = Some place }
   pub moved : new.point.state ≡ with_lease old.point.state at.op t d
 
--- By the answer: it leased one; or the id of the words was used before, and nothing changed.
+-- A command that needs a session finds none, by the id that a new one would have: of those that were given back none has a minute left,
+-- and one was made with that id before.
+pub record IsRepeated (s : Sessions) (moment : ℕ) (c : CommandState) (own : Lsid) : Type 0 where
+  pub minutes : ℤ
+  pub needed : minutes_needed c ≡ Some minutes
+  pub used : is_used own s.made ≡ true
+  pub spent : All (λ k. has_minute_left minutes moment k ≡ false) s.kept
+
+-- By the answer: it leased one; or it found none, by the id of the words, and nothing changed.
 abbrev pub Leases : Recorded → Recorded → CommandAt → Sessions → Sessions → CommandState → CommandState → Lsid → LeaseAnswer → Type 0
 Leases old new at s t c d own answer.Leased = IsLeased old new at s t c d own
 Leases old new at s t c d own (answer.Repeated repeated) =
-    (repeated ≡ own) × (is_used own s.made ≡ true) × (new ≡ old) × (t ≡ s) × (d ≡ c)
+    (repeated ≡ own) × IsRepeated s at.moment c own × (new ≡ old) × (t ≡ s) × (d ≡ c)
 
 -- A command drew a number from its session.
 pub record IsDrawn (old new : Recorded) (at : CommandAt) (s t : Sessions) (c d : CommandState) : Type 0 where

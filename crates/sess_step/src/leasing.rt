@@ -22,7 +22,8 @@ use wired_trail::WiredTrail;
 pub enum LeaseAnswer {
     /// The command holds a session.
     Leased,
-    /// A session had the id of the words before, and nothing changed: draw other words.
+    /// A session had the id of the words before, none that was given back is good for the command, and nothing changed: draw other
+    /// words.
     Repeated(Lsid),
 }
 

@@ -1,5 +1,4 @@
-use Rattle.std.proofs.Common.{◌≡◌, ℕ, Some, sym, ap, ◌∙◌, subst, arith}
-use Rattle.std.specs.Prelude.{slice_get}
+use Rattle.std.proofs.Common.{sym, ap, ◌∙◌}
 use Rattle.desk_trail.specs.Facts.{facts_of}
 use Rattle.desk_trail.specs.Legal.{Point}
 use Rattle.desk_core.proofs.AppendsLemmas.{Appends-trans}

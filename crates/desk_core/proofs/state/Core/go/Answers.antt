@@ -1,6 +1,7 @@
 use Rattle.std.proofs.Common.{subst}
-use Rattle.desk_core.specs.Steps.{MeansPhase}
-use Rattle.desk_core.proofs.GoingLemmas.{HasGone-then}
+use Rattle.sess_book.specs.Ids.{id_of}
+use Rattle.desk_core.specs.Steps.{MeansEntry}
+use Rattle.desk_core.proofs.GoingLemmas.{HasGone-then, IsWaiting-client}
 use Rattle.desk_core.proofs.OfferLemmas.{OnOk-by}
 use Rattle.desk_core.proofs.state.Core.go.Goals as goal
 
@@ -10,10 +11,25 @@ returns-in-Done-clause-gone g c =
     (λ gone. HasGone-then c.args.self.now c.begin_attempt.new.self c.conclude.new.self c.args.at.moment c.args.at.op _ _ _ _ c.in_ok-begin_attempt.ensures.gone gone)
     c.conclude.ensures.gone
 
+pub returns-in-Done-clause-sight : goal.returns-in-Done-clause-sight
+returns-in-Done-clause-sight g c = c.conclude.ensures.sight (id_of c.args.words.first c.args.words.second)
+
 pub returns-in-Wait-clause-sight : goal.returns-in-Wait-clause-sight
-returns-in-Wait-clause-sight g c = (
-  _,
-  c.in_ok-begin_attempt.ensures.gone.step.work.there,
-  subst (MeansPhase c.args.self.now.trail.client c.begin_attempt.new.self.trail.point.state c.args.at.moment c.begin_attempt.new.operation) c.in-Wait.is
-      c.in_ok-begin_attempt.ensures.means,
-)
+returns-in-Wait-clause-sight g c =
+    let own = id_of c.args.words.first c.args.words.second in (
+      _,
+      c.in_ok-begin_attempt.ensures.gone.step.work.there,
+      IsWaiting-client c.args.self.now.trail.client c.begin_attempt.new.self.trail.client c.begin_attempt.new.self.trail.point.state c.args.at.moment _ _
+          c.begin_attempt.ensures.appends.client
+          (subst (MeansEntry c.args.self.now.trail.client c.begin_attempt.new.self.trail.point.state c.args.at.moment own c.begin_attempt.new.operation) c.in-Wait.is
+          c.in_ok-begin_attempt.ensures.means),
+    )
+
+pub returns-in-Again-clause-sight : goal.returns-in-Again-clause-sight
+returns-in-Again-clause-sight g c =
+    let own = id_of c.args.words.first c.args.words.second in (
+      _,
+      c.in_ok-begin_attempt.ensures.gone.step.work.there,
+      subst (MeansEntry c.args.self.now.trail.client c.begin_attempt.new.self.trail.point.state c.args.at.moment own c.begin_attempt.new.operation) c.in-Again.is
+          c.in_ok-begin_attempt.ensures.means,
+    )

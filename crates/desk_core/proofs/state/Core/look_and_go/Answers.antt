@@ -1,6 +1,10 @@
-use Rattle.std.proofs.Common.{subst}
-use Rattle.desk_core.specs.Steps.{MeansPhase}
-use Rattle.desk_core.proofs.GoingLemmas.{HasGone-then}
+use Rattle.std.proofs.Common.{◌≡◌, Option, inr, subst}
+use Rattle.std.specs.Prelude.{IfNone, IfSome}
+use Rattle.sess_book.specs.Ids.{id_of}
+use Rattle.write_retry.specs.declared.events.Next.TheVariants as next
+use Rattle.desk_core.specs.Steps.{MeansGoing, MeansPhase}
+use Rattle.desk_core.specs.declared.sight.Sight.{Sight}
+use Rattle.desk_core.proofs.GoingLemmas.{HasFound-more, HasGone-then, IsWaiting-client, MeansStep-going}
 use Rattle.desk_core.proofs.state.Core.look_and_go.Goals as goal
 
 pub returns-in-Some-clause-gone : goal.returns-in-Some-clause-gone
@@ -17,6 +21,27 @@ pub returns-in-Wait-clause-sight : goal.returns-in-Wait-clause-sight
 returns-in-Wait-clause-sight g c = (
   _,
   c.in_ok-look_counted.ensures.gone.step.work.there,
-  subst (MeansPhase c.args.self.now.trail.client c.look_counted.new.self.trail.point.state c.args.at.moment c.look_counted.new.operation) c.in-Wait.is
-      c.in_ok-look_counted.ensures.means,
+  IsWaiting-client c.args.self.now.trail.client c.look_counted.new.self.trail.client c.look_counted.new.self.trail.point.state c.args.at.moment _ _
+      c.look_counted.ensures.appends.client
+      (subst (MeansPhase c.args.self.now.trail.client c.look_counted.new.self.trail.point.state c.args.at.moment c.look_counted.new.operation) c.in-Wait.is
+      c.in_ok-look_counted.ensures.means),
 )
+
+pub returns-in-Some-clause-sight : goal.returns-in-Some-clause-sight
+returns-in-Some-clause-sight g c =
+    MeansStep-going c.args.at.moment c.args.at.op c.args.words c.args.self.now.trail c.go_counted.new.self.trail c.in-Some.sight
+    (subst (λ (o : Option Sight). IfSome o (MeansGoing c.args.at.moment c.args.at.op (id_of c.args.words.c c.args.words.d) c.go_counted.new.self.trail)) c.in-Some.is
+    c.in_ok-sight-in-Done.ensures.sight)
+
+pub returns-in-None-clause-sight : goal.returns-in-None-clause-sight
+returns-in-None-clause-sight g c =
+    inr (record {
+      selects = (
+        _,
+        c.in_ok-sight-in-Done.ensures.gone.step.work.there,
+        subst (λ (o : Option Sight). IfNone o (c.go_counted.new.operation.op.next ≡ next.Select)) c.in-None.is c.in_ok-sight-in-Done.ensures.looks,
+      );
+      found =
+          HasFound-more c.args.at.moment c.args.at.op c.args.words.a c.args.words.b c.args.self.now.trail c.look_counted.new.self.trail c.go_counted.new.self.trail
+          (c.in_ok-look_counted.ensures.found c.in-Done.is) c.go_counted.ensures.appends;
+    })

@@ -1,4 +1,9 @@
-use Rattle.desk_core.proofs.GoingLemmas.{HasGone-then}
+use Rattle.std.proofs.Common.{Option, subst}
+use Rattle.std.specs.Prelude.{IfSome}
+use Rattle.sess_book.specs.Ids.{id_of}
+use Rattle.desk_core.specs.Steps.{MeansGoing}
+use Rattle.desk_core.specs.declared.sight.Sight.{Sight}
+use Rattle.desk_core.proofs.GoingLemmas.{HasGone-then, IfOk-by, MeansStep-behind, MeansStep-going}
 use Rattle.desk_core.proofs.OfferLemmas.{OnOk-by}
 use Rattle.desk_core.proofs.state.Core.step.Goals as goal
 
@@ -7,3 +12,16 @@ returns-in-None-clause-gone g c =
     OnOk-by c.look_and_go.result _ _
     (λ gone. HasGone-then c.args.self.now c.go_counted.new.self c.look_and_go.new.self c.args.at.moment c.args.at.op _ _ _ _ c.in_ok-sight.ensures.gone gone)
     c.look_and_go.ensures.gone
+
+pub returns-in-Some-clause-sight : goal.returns-in-Some-clause-sight
+returns-in-Some-clause-sight g c =
+    MeansStep-going c.args.at.moment c.args.at.op c.args.words c.args.self.now.trail c.go_counted.new.self.trail c.in-Some.sight
+    (subst (λ (o : Option Sight). IfSome o (MeansGoing c.args.at.moment c.args.at.op (id_of c.args.words.c c.args.words.d) c.go_counted.new.self.trail)) c.in-Some.is
+    c.in_ok-sight.ensures.sight)
+
+pub returns-in-None-clause-sight : goal.returns-in-None-clause-sight
+returns-in-None-clause-sight g c =
+    IfOk-by c.look_and_go.result _ _
+    (λ s h. MeansStep-behind c.args.at.moment c.args.at.op c.args.words c.args.self.now.trail c.go_counted.new.self.trail c.look_and_go.new.self.trail s
+    c.go_counted.ensures.appends h)
+    c.look_and_go.ensures.sight

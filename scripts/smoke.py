@@ -1,5 +1,6 @@
 #!/usr/bin/env python3
-"""The cases of scripts/smoke: what a peer answers over a real socket, and what mdc must print, end with and have sent."""
+"""The cases of scripts/smoke: what a peer answers over a real socket, and what mdc must print, end with and have sent; and
+those of member_prog (smoke_member.py), which is the peer here where plain answers serve."""
 
 import os
 import socket
@@ -9,6 +10,8 @@ import tempfile
 import threading
 import time
 from pathlib import Path
+
+from smoke_member import Member, member_cases
 
 HERE = Path(__file__).parent
 WAIT_SECONDS = 40
@@ -185,6 +188,34 @@ COMMANDS = [
 ]
 
 
+# Words that are refused.
+REFUSED = [
+    [],
+    ["run"],
+    ["insert", "h:1", "d", "c", "1"],
+    ["run", "h:1", "-", ""],
+    ["run", "h:1", "", "d"],
+    ["--help"],
+    ["run", "h:1,i:1", "-", "d"],
+    ["run", "h:1", "rs0", "d"],
+    ["run", "h:70000", "-", "d"],
+]
+
+# (what the case shows, the script, the status, what is printed, what is complained), where nothing listens
+UNHEARD = [
+    ("nothing listens", SCRIPT, 1, f"{NETWORK}\ndone 1 ok 0\n", ""),
+    ("an empty script", "", 0, "done 0 ok 0\n", ""),
+    (
+        "lines of spaces, CR, no LF at the end",
+        "  \r\n" + SCRIPT.replace("\n", "\r\n") + SCRIPT[:-1],
+        1,
+        "1: network attempts=1\n2: network attempts=1\ndone 2 ok 0\n",
+        "",
+    ),
+    ("a lane of 0 in the second line", SCRIPT + SCRIPT.replace('"lane":1', '"lane":0'), 3, "", "mdc: script line 2\n"),
+]
+
+
 def wait_for(path):
     for _ in range(500):
         if path.exists() and path.read_text():
@@ -273,22 +304,22 @@ def plain_inserts(host):
             connection.recv(65536)
 
 
-def timed_cases(mdc, counts):
-    """So many inserts, and that a rest ends when the reply comes: mdc takes about as long as for as many dials that fail
+def timed_cases(mdc, member, counts):
+    """So many inserts that a member answers, and that a rest ends when the reply comes: mdc takes about as long as for as many dials that fail
     and a plain client for its replies, and a millisecond more an insert where each rest lasts its time. Other work on
     the machine can blur that, so it is tried again before it counts as failed."""
     lines = "".join(f"{k}: ok n=1 modified=0 attempts=1\n" for k in range(1, COUNT + 1))
     for attempt in range(5):
-        peer = Peer([f"whole:{reply_to(id)}" for id in range(1, COUNT + 1)])
+        peer = Member(member)
         took, got = seconds_of(lambda: run(mdc, ["run", peer.host, "-", "test"], SCRIPT * COUNT))
-        received = peer.end()
+        ended = peer.end()
         if attempt == 0:
             compare(f"a script of {COUNT} inserts", got, (0, f"{lines}done {COUNT} ok {COUNT}\n", ""), counts)
-            compare("the peer of those", received, (0, [request(id) for id in range(1, COUNT + 1)]), counts)
+            compare("the member of those", ended, (0, "", ""), counts)
         failing, _ = seconds_of(lambda: run(mdc, ["run", NOBODY, "-", "test"], SCRIPT * COUNT))
-        peer = Peer([f"whole:{REPLY}"] * COUNT)
+        peer = Member(member)
         plain, _ = seconds_of(lambda: plain_inserts(peer.host))
-        peer.end()
+        peer.leave()
         print(f"{COUNT} inserts took {took:.2f} seconds, where nothing listens {failing:.2f}, by a plain client {plain:.2f}")
         ends = took < failing + plain + COUNT * 0.00025
         if ends:
@@ -297,16 +328,11 @@ def timed_cases(mdc, counts):
 
 
 def word_cases(mdc, counts):
-    refused = [[], ["run"], ["insert", "h:1", "d", "c", "1"], ["run", "h:1", "-", ""], ["run", "h:1", "", "d"], ["--help"],
-               ["run", "h:1,i:1", "-", "d"], ["run", "h:1", "rs0", "d"], ["run", "h:70000", "-", "d"]]
-    for words in refused:
+    for words in REFUSED:
         compare(f"the words {words}", run(mdc, words), (2, "", "mdc: usage\n"), counts)
     nobody = ["run", NOBODY, "-", "test"]
-    compare("nothing listens", run(mdc, nobody), (1, f"{NETWORK}\ndone 1 ok 0\n", ""), counts)
-    compare("an empty script", run(mdc, nobody, ""), (0, "done 0 ok 0\n", ""), counts)
-    compare("lines of spaces, CR, no LF at the end", run(mdc, nobody, "  \r\n" + SCRIPT.replace("\n", "\r\n") + SCRIPT[:-1]),
-            (1, "1: network attempts=1\n2: network attempts=1\ndone 2 ok 0\n", ""), counts)
-    compare("a lane of 0 in the second line", run(mdc, nobody, SCRIPT + SCRIPT.replace('"lane":1', '"lane":0')), (3, "", "mdc: script line 2\n"), counts)
+    for name, script, *wanted in UNHEARD:
+        compare(name, run(mdc, nobody, script), tuple(wanted), counts)
     folder = os.open("/", os.O_RDONLY)
     unread = subprocess.run([mdc, *nobody], stdin=folder, capture_output=True, text=True, timeout=WAIT_SECONDS)
     os.close(folder)
@@ -350,14 +376,15 @@ class SilentCase:
 
 
 def main():
-    mdc = sys.argv[1]
+    mdc, member = sys.argv[1:]
     counts = [0, 0]
     silent = SilentCase(mdc)
     peer_cases(mdc, counts)
     script_cases(mdc, counts)
     command_cases(mdc, counts)
-    timed_cases(mdc, counts)
+    timed_cases(mdc, member, counts)
     word_cases(mdc, counts)
+    member_cases(member, mdc, lambda name, got, wanted: compare(name, got, wanted, counts))
     silent.end(counts)
     print(f"{counts[0]} passed, {counts[1]} failed")
     return 1 if counts[1] else 0

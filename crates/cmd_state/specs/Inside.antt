@@ -35,6 +35,7 @@ command_of c = record {
   selected = option_map selected_of c.selected;
   tried = option_to_list c.first_tried ++ option_to_list c.second_tried;
   check_out = check_out_of c.check_out;
+  dialled = c.dialled;
   asked = c.asked;
   session = c.session;
   number = c.number;

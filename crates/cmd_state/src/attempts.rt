@@ -85,6 +85,7 @@ impl RunningCommand {
         self.first_tried = first;
         self.second_tried = second;
         self.selected = None;
+        self.dialled = None;
         self.asked = None;
         self.machine.on(event_of(end));
     }

@@ -2,7 +2,7 @@ ghost use Rattle.std.specs.Prelude.{◌≡◌, true};
 ghost use Rattle.write_retry.specs.Machine.{allows};
 ghost use Rattle.write_retry.specs.declared.events.OpEvent.TheVariants as event;
 ghost use Rattle.desk_trail.specs.Attempts.{with_event};
-ghost use Rattle.desk_trail.specs.Pools.{dials_by, has_by, waits_now};
+ghost use Rattle.desk_trail.specs.Pools.{dials_now, has_by, waits_now};
 ghost use Rattle.desk_trail.specs.States.{Nothing};
 ghost use Rattle.cmd_state.specs.Inside.{check_out_of};
 
@@ -33,10 +33,11 @@ impl RunningCommand {
         self.check_out = CheckOut::Waits { host, ticket };
     }
 
-    /// It dials a connection of that number.
-    pub fn dial(&mut self, conn: u64)
-        ensures dials { self.new ≡ record self.old { check_out = dials_by conn self.old.check_out } }
+    /// It dials a connection of that number, at a moment in microseconds.
+    pub fn dial(&mut self, conn: u64, moment: u64)
+        ensures dials { self.new ≡ dials_now moment conn self.old }
     {
+        self.dialled = Some(moment);
         if let CheckOut::Waits { host, ticket } = self.check_out {
             self.check_out = CheckOut::Dials {
                 host,

@@ -19,6 +19,7 @@ pub struct RunningCommand {
     pub(crate) first_tried: Option<u32>,
     pub(crate) second_tried: Option<u32>,
     pub(crate) check_out: CheckOut,
+    pub(crate) dialled: Option<u64>,
     pub(crate) asked: Option<u64>,
     pub(crate) session: Option<usize>,
     pub(crate) number: Option<i64>,
@@ -49,6 +50,7 @@ impl RunningCommand {
             first_tried: None,
             second_tried: None,
             check_out: CheckOut::Nothing,
+            dialled: None,
             asked: None,
             session: None,
             number: None,
@@ -93,6 +95,13 @@ impl RunningCommand {
         ensures check_out { check_out_of result ≡ self.now.check_out }
     {
         self.check_out
+    }
+
+    /// When it dialled a connection, in microseconds, until that attempt ended.
+    pub fn dialled(&self) -> Option<u64>
+        ensures dialled { result ≡ self.now.dialled }
+    {
+        self.dialled
     }
 
     /// When its request was queued, in microseconds, until that attempt ended.

@@ -18,7 +18,7 @@ use Rattle.desk_trail.specs.Facts as fact
 use Rattle.desk_trail.specs.Legal.{InTime, IsNewStream, MayGoOn, Point, StandsAt, point_after}
 use Rattle.desk_trail.specs.Owed.{InTurn, IsHello, Owed, left_owed}
 use Rattle.desk_trail.specs.Owed as owed
-use Rattle.desk_trail.specs.Pools.{OfHost, PoolAllows, dials_by, pools_after, with_pool}
+use Rattle.desk_trail.specs.Pools.{OfHost, PoolAllows, dials_by, dials_now, pools_after, with_pool}
 use Rattle.desk_trail.specs.Requests.{IsFor, farewell_by, id_at}
 use Rattle.desk_trail.specs.States.{ClientState, CommandState, ConnStream, ServerState, changed, stream_of, with_command, with_server}
 use Rattle.server_state.specs.PoolMoves.{MovesBy}
@@ -32,8 +32,8 @@ use Rattle.cmd_step.proofs.LossLemmas.{lost}
 use Rattle.cmd_step.proofs.PlaceLemmas.{allows, alone, both, ticketed}
 use Rattle.cmd_step.proofs.StepLemmas.{Moves}
 
-abbrev pub dialling : ℕ → CommandState → CommandState
-dialling conn c = record c { check_out = dials_by conn c.check_out }
+abbrev pub dialling : ℕ → ℕ → CommandState → CommandState
+dialling moment conn c = dials_now moment conn c
 
 abbrev pub streamed : ℕ → ℕ → ServerState → ServerState
 streamed conn stream s = record s { conn_streams = record { conn = conn; stream = stream } ∷ s.conn_streams }
@@ -58,15 +58,15 @@ StandsAt-dialled client p at conn stream t c free fresh h = record {
 -- ---- Without a stream
 
 pub moves-failed : (client : Client) (p q : Point) (at : At) (conn : ℕ) (t : ServerState) (c : CommandState) → IsFree p at.moment → IsAnswered p.state at (λ n. pool.Dialled n conn) t c →
-    q ≡ point_after client p (record { at = at.moment; what = fact.Dialled at.op at.host conn None }) → Moves p q at t (dialling conn c) (owed.NoDial at.op at.host ∷ [])
+    q ≡ point_after client p (record { at = at.moment; what = fact.Dialled at.op at.host conn None }) → Moves p q at t (dialling at.moment conn c) (owed.NoDial at.op at.host ∷ [])
 moves-failed client p q at conn t c free h e =
     let w = p.state in
     let f = fact.Dialled at.op at.host conn None in
     let en = pool.Dialled h.ticket conn in record {
       state = ap (λ (x : Point). x.state) e
-          ∙ ap (λ (o : Option OfHost). with_command (pools_after w at.moment o) at.op (dialling conn)) (ticketed w at h.ticket c (dialled conn) h.places.command h.waits)
-          ∙ both w at h.server t c (dialling conn c) (with_pool at.moment en) (changed w.commands at.op (dialling conn)) h.places.server
-          (alone at.moment en h.server h.idle refl ∙ sym h.moves.moves) (changed-there w.commands at.op c (dialling conn) h.places.command);
+          ∙ ap (λ (o : Option OfHost). with_command (pools_after w at.moment o) at.op (dialling at.moment conn)) (ticketed w at h.ticket c (dialled conn) h.places.command h.waits)
+          ∙ both w at h.server t c (dialling at.moment conn c) (with_pool at.moment en) (changed w.commands at.op (dialling at.moment conn)) h.places.server
+          (alone at.moment en h.server h.idle refl ∙ sym h.moves.moves) (changed-there w.commands at.op c (dialling at.moment conn) h.places.command);
       owes = ap (λ (x : Point). x.owed) e ∙ ap (λ (os : List Owed). owed.NoDial at.op at.host ∷ left_owed os f) free.paid;
       now = ap (λ (x : Point). x.moment) e;
     }
@@ -107,7 +107,7 @@ held-dialled s u moment ticket conn m once =
     let none : times p s.pool.state.pending ≡ 0 = omega (arith, now, more) in
     ap (λ (x : ServerState). held_of conn x.pool.state.pending) m.moves ∙ find-only p s.pool.state.pending h passes none
 
-pub has-dialled : (w : ClientState) (at : At) (conn : ℕ) (u : ServerState) (c d : CommandState) (h : IsAnswered w at (λ n. pool.Dialled n conn) u c) → d ≡ dialling conn c →
+pub has-dialled : (w : ClientState) (at : At) (conn : ℕ) (u : ServerState) (c d : CommandState) (h : IsAnswered w at (λ n. pool.Dialled n conn) u c) → d ≡ dialling at.moment conn c →
     times_of u.pool.state conn ≤ 1 → HasDialled at conn u d
 has-dialled w at conn u c d h same once = record {
   held = new_held conn h.ticket h.server.pool.state;
@@ -128,7 +128,7 @@ same-offers w at conn u t c h m =
 
 -- the point behind the dial
 pub record IsAhead (p q : Point) (at : At) (conn stream : ℕ) (t : ServerState) (c : CommandState) : Type 0 where
-  pub state : q.state ≡ record (with_both p.state at (streamed conn stream t) (dialling conn c)) { streams = stream ∷ p.state.streams }
+  pub state : q.state ≡ record (with_both p.state at (streamed conn stream t) (dialling at.moment conn c)) { streams = stream ∷ p.state.streams }
   pub owes : q.owed ≡ owed.Hello (purpose.Greeting at.host conn) stream true ∷ []
   pub now : q.moment ≡ at.moment
 
@@ -140,12 +140,12 @@ dialled-on client p q at conn stream t c free h e =
     let f = fact.Dialled at.op at.host conn (Some stream) in
     let en = pool.Dialled h.ticket conn in record {
       state = ap (λ (x : Point). x.state) e
-          ∙ ap (λ (o : Option OfHost). with_command (on (pools_after w at.moment o)) at.op (dialling conn)) (ticketed w at h.ticket c (dialled conn) h.places.command h.waits)
-          ∙ ap (λ (ss : List ServerState). let v : ClientState = record w { servers = ss; streams = stream ∷ w.streams; commands = changed w.commands at.op (dialling conn) } in v)
+          ∙ ap (λ (o : Option OfHost). with_command (on (pools_after w at.moment o)) at.op (dialling at.moment conn)) (ticketed w at h.ticket c (dialled conn) h.places.command h.waits)
+          ∙ ap (λ (ss : List ServerState). let v : ClientState = record w { servers = ss; streams = stream ∷ w.streams; commands = changed w.commands at.op (dialling at.moment conn) } in v)
           (changed-twice w.servers at.host h.server (with_pool at.moment en) (streamed conn stream) h.places.server
           ∙ ap (λ (x : ServerState). slice_set w.servers at.host (streamed conn stream x)) (alone at.moment en h.server h.idle refl ∙ sym h.moves.moves))
           ∙ ap (λ (cs : List CommandState). let v : ClientState = record w { servers = slice_set w.servers at.host (streamed conn stream t); streams = stream ∷ w.streams; commands = cs } in v)
-          (changed-there w.commands at.op c (dialling conn) h.places.command);
+          (changed-there w.commands at.op c (dialling at.moment conn) h.places.command);
       owes = ap (λ (x : Point). x.owed) e ∙ ap (λ (os : List Owed). owed.Hello (purpose.Greeting at.host conn) stream true ∷ left_owed os f) free.paid;
       now = ap (λ (x : Point). x.moment) e;
     }
@@ -173,12 +173,12 @@ StandsAt-greeted client p q at conn place r t c free m hello count id = record {
 
 pub behind-greeted : (client : Client) (p q z : Point) (at : At) (conn place : ℕ) (r : Request) (t u : ServerState) (c d : CommandState) → IsAhead p q at conn r.stream t c →
     IsHello (purpose.Greeting at.host conn) r.stream true r → z ≡ point_after client q (record { at = at.moment; what = fact.Asked place r }) → u ≡ streamed conn r.stream t →
-    d ≡ dialling conn c → z.state ≡ with_dial p.state at r.stream u d
+    d ≡ dialling at.moment conn c → z.state ≡ with_dial p.state at r.stream u d
 behind-greeted client p q z at conn place r t u c d m hello e server command =
     ap (λ (x : Point). x.state) e
     ∙ ap (λ (y : Purpose). commands_after (asked_event y) (asked_by at.moment y (farewell_by y r.stream (record q.state { requests = q.state.requests + 1 })))) hello.is_for
     ∙ ap (λ (w : ClientState). let v : ClientState = record w { requests = w.requests + 1 } in v) m.state
-    ∙ ap (λ (x : ServerState). with_dial p.state at r.stream x (dialling conn c)) (sym server)
+    ∙ ap (λ (x : ServerState). with_dial p.state at r.stream x (dialling at.moment conn c)) (sym server)
     ∙ ap (λ (x : CommandState). with_dial p.state at r.stream u x) (sym command)
 
 pub paid-greeted : (client : Client) (p q z : Point) (at : At) (conn place : ℕ) (r : Request) (t : ServerState) (c : CommandState) → IsAhead p q at conn r.stream t c →

@@ -2,6 +2,7 @@ mod CheckInLemmas
 mod ClosedLemmas
 mod DialLemmas
 mod EndLemmas
+mod HeardLemmas
 mod ListLemmas
 mod LossLemmas
 mod MoveLemmas

@@ -9,6 +9,7 @@ ghost use Rattle.desk_trail.specs.Requests.{id_at};
 ghost use Rattle.desk_trail.specs.States.{ServerState, stream_of};
 ghost use Rattle.desk_wire.specs.State.{opened};
 ghost use Rattle.net_link.specs.Causes.{HasCause};
+ghost use Rattle.wired_trail.specs.Hearing.{HasUntoldDial, told_of};
 ghost use Rattle.wired_trail.specs.Lines.{IsThere, KeepsOthers, line_at};
 ghost use Rattle.wired_trail.specs.declared.stream_use.StreamUse.TheVariants as for_use;
 ghost use Rattle.cmd_step.specs.Answers.{IsDial};
@@ -67,6 +68,7 @@ fn greet<N: Net>(
     requires hello { IsHello (purpose_of.Greeting dial.at.host dial.conn) made.request.stream true made.request }
     requires id { made.request.id ≡ id_at (length wired.old.trail.lists.requests) }
     requires bytes { made.bytes ≡ made.request.bytes }
+    requires free_stream { N.tells → (told_of wired.old.trail made.request.stream).last ≡ None }
     ensures greeted { HasGreeted dial.at dial.conn made.request wired.old.trail wired.new.trail server.new running.new }
     ensures queued { line_at wired.new.lines made.request.stream
         ≡ Some (record { wire = record (opened made.request.stream) { unsent = made.request.bytes }; is_for = for_use.Conn dial.at.host dial.conn }) }
@@ -84,7 +86,7 @@ fn greet<N: Net>(
             stream: Some(stream),
         },
     );
-    running.dial(dial.conn);
+    running.dial(dial.conn, dial.at.moment);
     server.keep_stream(stream);
     wired.ask(dial.at.moment, made.request, made.bytes);
 }
@@ -100,11 +102,12 @@ fn fail<N: Net>(
     requires steps { 5 ≤ wired.old.trail.room.steps }
     requires answered { IsAnswered wired.old.trail.point.state dial.at (λ t. pool.Dialled t dial.conn) server.old running.old }
     requires streamless { stream_of server.old dial.conn ≡ None }
+    requires untold { N.tells → HasUntoldDial (N.history wired.old.net) wired.old.trail }
     ensures failed { HasFailed dial.at dial.conn wired.old.trail wired.new.trail wired.old.lines wired.new.lines server.new running.new }
     ensures idle { server.new.pool.owed ≡ [] }
     ensures faults { N.faults wired.old.net ≤ N.faults wired.new.net }
 {
-    wired.append(
+    wired.tell_undialled(
         dial.at.moment,
         Entry::Dialled {
             op: dial.at.op,
@@ -114,7 +117,7 @@ fn fail<N: Net>(
         },
     );
     stands_once(wired);
-    running.dial(dial.conn);
+    running.dial(dial.conn, dial.at.moment);
     let loss = Loss {
         conn: dial.conn,
         why: Unsent::Dial { bad: false },

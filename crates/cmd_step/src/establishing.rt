@@ -1,8 +1,12 @@
 //! The greeting of a connection that a command dialled was answered (CMAP, Establishing a Connection).
-ghost use Rattle.std.specs.Prelude.{◌≡◌, ◌≤◌, [], true, false, IfSome};
+ghost use Rattle.std.specs.Prelude.{◌≡◌, ◌≤◌, Bool, [], true, false, Some, IfSome};
 ghost use Rattle.pool_book.specs.Pool.{shut_reason};
 ghost use Rattle.desk_trail.specs.Legal.{Exceeds};
+ghost use Rattle.desk_trail.specs.Facts as fact;
 ghost use Rattle.desk_trail.specs.States.{stream_of};
+ghost use Rattle.desk_trail.specs.Streams.{conn_stream_at};
+ghost use Rattle.wired_trail.specs.Hearing.{TellsHeard};
+ghost use Rattle.wired_trail.specs.Wired.{HasCome};
 ghost use Rattle.wired_trail.specs.declared.stream_use.StreamUse.TheVariants as for_use;
 ghost use Rattle.cmd_step.specs.Closed.{ClosesOnly, IsUnused};
 ghost use Rattle.cmd_step.specs.Free.{IsFree};
@@ -58,11 +62,14 @@ fn lend_dialled<N: Net>(
     requires room { 3 ≤ wired.old.trail.room.steps }
     requires settled { IsSettled wired.old.trail.point.state at greeted.conn false server.now running.old }
     requires news { IfSome greeted.news (λ stamp. Exceeds stamp wired.old.trail.point.time) }
+    requires heard { N.tells → TellsHeard (N.history wired.old.net) wired.old.trail at.moment (fact.Settled at.op at.host greeted.conn false) }
+    requires came { N.tells → IfSome greeted.news (HasCome (N.history wired.old.net)) }
+    requires on { conn_stream_at wired.old.trail.point.state at.host greeted.conn ≡ Some greeted.stream }
     ensures lent { IsEstablished at greeted wired.old.trail wired.new.trail server.now running.new }
     ensures paid { wired.new.trail.point.owed ≡ [] }
     ensures same { wired.new ≡ record wired.old { trail = wired.new.trail } }
 {
-    wired.append(
+    wired.tell(
         at.moment,
         Entry::Settled {
             op: at.op,
@@ -70,6 +77,7 @@ fn lend_dialled<N: Net>(
             conn: greeted.conn,
             stale: false,
         },
+        Some(greeted.stream),
     );
     tell_news(wired, at.moment, greeted.news);
     wired.append(
@@ -95,13 +103,16 @@ fn shut_dialled<N: Net>(
     requires room { 5 ≤ wired.old.trail.room.steps }
     requires settled { IsSettled wired.old.trail.point.state at greeted.conn true server.now running.old }
     requires news { IfSome greeted.news (λ stamp. Exceeds stamp wired.old.trail.point.time) }
+    requires heard { N.tells → TellsHeard (N.history wired.old.net) wired.old.trail at.moment (fact.Settled at.op at.host greeted.conn true) }
+    requires came { N.tells → IfSome greeted.news (HasCome (N.history wired.old.net)) }
+    requires on { conn_stream_at wired.old.trail.point.state at.host greeted.conn ≡ Some greeted.stream }
     ensures stale { IsStale at greeted result wired.old.trail wired.new.trail server.now running.new }
     ensures paid { wired.new.trail.point.owed ≡ [] }
     ensures closes { ClosesOnly (λ u. u ≡ for_use.Conn at.host greeted.conn) wired.old.lines wired.new.lines }
     ensures gone { IfSome (stream_of server.now greeted.conn) (λ stream. IsUnused wired.new.lines stream (for_use.Conn at.host greeted.conn)) }
     ensures faults { N.faults wired.old.net ≤ N.faults wired.new.net }
 {
-    wired.append(
+    wired.tell(
         at.moment,
         Entry::Settled {
             op: at.op,
@@ -109,6 +120,7 @@ fn shut_dialled<N: Net>(
             conn: greeted.conn,
             stale: true,
         },
+        Some(greeted.stream),
     );
     tell_news(wired, at.moment, greeted.news);
     let reason = reason_of(server);
@@ -156,6 +168,9 @@ pub fn settle<N: Net>(
     requires idle { server.old.pool.owed ≡ [] }
     requires dialled { HasDialled at greeted.conn server.old running.old }
     requires news { IfSome greeted.news (λ stamp. Exceeds stamp wired.old.trail.point.time) }
+    requires heard { N.tells → (stale : Bool) → TellsHeard (N.history wired.old.net) wired.old.trail at.moment (fact.Settled at.op at.host greeted.conn stale) }
+    requires came { N.tells → IfSome greeted.news (HasCome (N.history wired.old.net)) }
+    requires on { conn_stream_at wired.old.trail.point.state at.host greeted.conn ≡ Some greeted.stream }
     ensures settles { Settles at greeted result wired.old.trail wired.new.trail server.new running.new }
     ensures paid { wired.new.trail.point.owed ≡ [] }
     ensures idle { server.new.pool.owed ≡ [] }

@@ -43,7 +43,7 @@ mod time;
 
 pub use answering::check_out;
 pub use checking_in::{Back, check_in};
-pub use ending::{end_attempt, finish};
+pub use ending::{AskedAt, end_attempt, finish};
 pub use entering::enter;
 pub use establishing::settle;
 pub use got::Answer;

@@ -3,8 +3,11 @@ ghost use Rattle.std.specs.Prelude.{◌≡◌, ◌≤◌, [], None, Some, IfSome
 ghost use Rattle.pool_book.specs.declared.connections.Held.{Held};
 ghost use Rattle.pool_book.specs.Entries as pool;
 ghost use Rattle.pool_book.specs.Pool.{held_of};
+ghost use Rattle.desk_trail.specs.Facts as fact;
 ghost use Rattle.desk_trail.specs.States.{stream_of};
 ghost use Rattle.server_state.specs.PoolMoves.{MovesBy};
+ghost use Rattle.wired_trail.specs.Hearing.{TellsHeard};
+ghost use Rattle.wired_trail.specs.Wired.{HasCome};
 ghost use Rattle.wired_trail.specs.declared.stream_use.StreamUse.TheVariants as for_use;
 ghost use Rattle.cmd_step.specs.Closed.{ClosesOnly, IsUnused};
 ghost use Rattle.cmd_step.specs.Losses.{HasDialled, IsLoss, IsLost, IsNews, IsToTell, loss_owes};
@@ -49,6 +52,8 @@ pub fn lose<N: Net>(
     requires dialled { HasDialled at loss.conn server.old running.old }
     requires loss { IsLoss loss.why }
     requires news { IsNews wired.old.trail.point loss.why loss.news }
+    requires heard { N.tells → TellsHeard (N.history wired.old.net) wired.old.trail at.moment (fact.NotLent at.op at.host loss.why) }
+    requires came { N.tells → IfSome loss.news (HasCome (N.history wired.old.net)) }
     ensures lost { IsLost at loss wired.old.trail wired.new.trail server.new running.new }
     ensures offers { (h : Held) → held_of loss.conn server.old.pool.state.pending ≡ Some h
         → wired.new.trail.point.owed ≡ loss_owes server.old h loss.why }
@@ -60,14 +65,16 @@ pub fn lose<N: Net>(
     ensures streamless { stream_of server.old loss.conn ≡ None → wired.new.lines ≡ wired.old.lines }
     ensures faults { N.faults wired.old.net ≤ N.faults wired.new.net }
 {
+    let stream = server.stream_of(loss.conn);
     server.lost(loss.conn, at.moment);
-    wired.append(
+    wired.tell(
         at.moment,
         Entry::NotLent {
             op: at.op,
             host: at.host,
             why: loss.why,
         },
+        stream,
     );
     tell_news(wired, at.moment, loss.news);
     wired.append(

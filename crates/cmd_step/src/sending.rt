@@ -1,4 +1,4 @@
-ghost use Rattle.std.specs.Prelude.{◌≡◌, ◌≤◌, [], ◌∷◌, ◌++◌, Some, length, slice_get};
+ghost use Rattle.std.specs.Prelude.{◌≡◌, ◌≤◌, [], ◌∷◌, ◌++◌, None, Some, length, slice_get};
 ghost use Rattle.std.specs.Option.{option_map};
 ghost use Rattle.write_retry.specs.declared.attempt_end.AttemptEnd.TheVariants as attempt;
 ghost use Rattle.write_retry.specs.declared.events.Next.TheVariants as next_of;
@@ -6,6 +6,7 @@ ghost use Rattle.desk_trail.specs.declared.entry.Entry.TheVariants as entry_of;
 ghost use Rattle.desk_trail.specs.Facts as fact;
 ghost use Rattle.desk_trail.specs.Written.{IsAtLeast, a_request, an_entry};
 ghost use Rattle.legal_trail.specs.Recorded.{Adds};
+ghost use Rattle.wired_trail.specs.Hearing.{told_of};
 ghost use Rattle.wired_trail.specs.Lines.{IsIdle, KeepsOthers, line_at, with_unsent};
 ghost use Rattle.cmd_step.specs.Ends.{with_it};
 ghost use Rattle.cmd_step.specs.Free.{IsFree};
@@ -35,6 +36,7 @@ pub fn send<N: Net>(
     requires request { IsNextOf wired.old.trail op made.request }
     requires bytes { made.bytes ≡ made.request.bytes }
     requires idle { IsIdle wired.old.lines made.request.stream }
+    requires free_stream { N.tells → (told_of wired.old.trail made.request.stream).last ≡ None }
     ensures adds { Adds a_request (record wired.old.trail.lists { requests = wired.old.trail.lists.requests ++ made.request ∷ [] }) moment
         (entry_of.Asked (length wired.old.trail.lists.requests)) (fact.Asked (length wired.old.trail.lists.requests) made.request)
         wired.old.trail wired.new.trail }

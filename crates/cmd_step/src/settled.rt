@@ -5,6 +5,8 @@ use write_retry::Unsent;
 pub struct Greeted {
     /// The connection, by its number in its pool.
     pub conn: u64,
+    /// Its stream.
+    pub stream: u64,
     /// The stamp of the answer's cluster time, where that exceeds the greatest that was seen.
     pub news: Option<u64>,
 }

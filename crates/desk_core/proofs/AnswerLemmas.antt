@@ -7,6 +7,7 @@ use Rattle.std.specs.Option.{option_and_then, option_map}
 use Rattle.host_name.specs.Addresses.{Address}
 use Rattle.pool_book.specs.Entries as pool
 use Rattle.pool_book.specs.Entries.{PoolEntry}
+use Rattle.pool_book.specs.Answers.{IsWaitLimit}
 use Rattle.pool_book.specs.Pool.{Pool, ticket_of}
 use Rattle.pool_book.specs.declared.ticket.Ticket.{Ticket}
 use Rattle.write_retry.specs.declared.attempt_end.AttemptEnd.TheVariants as attempt
@@ -280,9 +281,15 @@ broken-at {N} d moment host generation address old mid s there is first second a
       (is ∙ sym u.2 ∙ sym v.2 ∙ ap (λ (t : ServerState). t.address) same, subst (λ n. IsBroken d moment n at.0) (sym (by at.0 at.1)) at.2),
     )
 
-pub IsWaiting-line : (client : Client) (w : ClientState) (moment until host : ℕ) (c : CommandState) → AtServer w host (IsToWait moment host c) → moment < until →
-    IsWaiting client w moment until c
-IsWaiting-line client w moment until host c at later = record { for_what = in_line host at.2.0 at.0 at.2.1 at.1 at.2.2; later = later }
+pub IsWaiting-line : (client : Client) (w : ClientState) (moment until host other ticket : ℕ) (c : CommandState) → AtServer w host (IsToWait moment host c) →
+    c.check_out ≡ Waits other ticket → AtServer w host (λ s. IsWaitLimit s.pool.state ticket until) → moment < until → IsWaiting client w moment until c
+IsWaiting-line client w moment until host other ticket c at waits limit later =
+    let one : limit.0 ≡ at.0 = let e : Some limit.0 ≡ Some at.0 = sym limit.1 ∙ at.1 in (cc) in
+    let same : ticket ≡ at.2.0 = let e : Waits other ticket ≡ Waits host at.2.0 = sym waits ∙ at.2.1 in (cc) in
+    record {
+      for_what = in_line host at.2.0 at.0 at.2.1 at.1 at.2.2 (subst (λ n. IsWaitLimit at.0.pool.state n until) same (subst (λ (s : ServerState). IsWaitLimit s.pool.state ticket until) one limit.2));
+      later = later;
+    }
 
 -- ---- A command that waits in line
 

@@ -1,3 +1,4 @@
+mod HeardLemmas
 mod HelloLemmas
 mod AppendsLemmas
 mod ServerLemmas

@@ -4,7 +4,7 @@ use Rattle.std.specs.Prelude.{◌≡◌, Some, slice_get}
 use Rattle.pool_book.specs.Pool.{held_of}
 use Rattle.pool_book.specs.declared.connections.Held.{Held}
 use Rattle.write_retry.specs.declared.events.Next.TheVariants as next
-use Rattle.desk_trail.specs.States.{ClientState, CommandState, Dials, ServerState}
+use Rattle.desk_trail.specs.States.{ClientState, CommandState, Dials, ServerState, stream_of}
 use Rattle.wired_trail.specs.Lines.{Lines, line_at}
 use Rattle.wired_trail.specs.declared.lines.Line.{Line}
 use Rattle.wired_trail.specs.declared.stream_use.StreamUse.TheVariants as for_use
@@ -20,6 +20,7 @@ pub record IsDialledBy (w : ClientState) (c : CommandState) (d : Dialled) : Type
   pub generation : held.generation ≡ d.generation
   pub dials : c.check_out ≡ Dials d.host held.ticket d.conn
   pub asks : c.op.next ≡ next.CheckOut d.host
+  pub stream_there : stream_of server d.conn ≡ Some d.stream
 
 -- Its stream is in use for it.
 pub record IsDialledOn (lines : Lines) (d : Dialled) : Type 0 where

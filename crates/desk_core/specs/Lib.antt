@@ -1,5 +1,6 @@
 pub mod Servers
 pub mod State
+pub mod Hearing
 pub mod Kept
 pub mod Moves
 pub mod Shutting

@@ -1,7 +1,7 @@
 -- What the answer of a command's step means (Server Selection; CMAP, Checking Out a Connection; URI Options).
 use Rattle.std.specs.Prelude.{◌≡◌, ◌≢◌, ◌<◌, ◌⊎◌, ℕ, ◌+◌, true, List, ◌∷◌, ◌++◌, Some, slice_get}
 use Rattle.bson_doc.specs.declared.ids.Lsid.{Lsid}
-use Rattle.pool_book.specs.Answers.{MustWait}
+use Rattle.pool_book.specs.Answers.{IsWaitLimit, MustWait}
 use Rattle.write_retry.specs.declared.events.Next.TheVariants as next
 use Rattle.sess_book.specs.Ids.{id_of}
 use Rattle.sess_step.specs.Moves.{IsRepeated}
@@ -10,7 +10,7 @@ use Rattle.desk_trail.specs.declared.entry.LookedHow.{LookedHow}
 use Rattle.desk_trail.specs.declared.entry.LookedHow.TheVariants as looked
 use Rattle.desk_trail.specs.declared.step.Step.{Step}
 use Rattle.desk_trail.specs.Attempts.{AtCommand}
-use Rattle.desk_trail.specs.Clients.{Client, socket_limit}
+use Rattle.desk_trail.specs.Clients.{Client, connect_limit, socket_limit}
 use Rattle.desk_trail.specs.Leases.{is_at_choice}
 use Rattle.desk_trail.specs.Looks.{deadline}
 use Rattle.desk_trail.specs.States.{ClientState, CommandState, Dials, Selection, ServerState, Waits}
@@ -23,13 +23,15 @@ use Rattle.desk_core.specs.declared.progress.Progress.{Progress}
 use Rattle.desk_core.specs.declared.progress.Progress.TheVariants as progress
 
 -- What a command waits for, and until when: for a suitable server, until its selection's deadline (Server Selection,
--- serverSelectionTimeoutMS); for a connection, in the line of a pool that has none for it (CMAP, WaitQueue); for the greeting of a
--- connection that it dialled; for the reply to its request, until socketTimeoutMS after that was queued (URI Options).
+-- serverSelectionTimeoutMS); for a connection, in the line of a pool that has none for it, until its limit there (CMAP, WaitQueue,
+-- waitQueueTimeoutMS); for the greeting of a connection that it dialled, until connectTimeoutMS after that; for the reply to its request,
+-- until socketTimeoutMS after that was queued (URI Options).
 pub data WaitsUntil (client : Client) (w : ClientState) (moment until : ℕ) (c : CommandState) : Type 0 where
   for_server : (s : Selection) → c.op.next ≡ next.Select → c.selection ≡ Some s → until ≡ deadline client c moment → WaitsUntil client w moment until c
   in_line : (host ticket : ℕ) (s : ServerState) → c.check_out ≡ Waits host ticket → slice_get w.servers host ≡ Some s →
-      MustWait s.pool.state moment ticket → WaitsUntil client w moment until c
-  for_greeting : (host ticket conn : ℕ) → c.check_out ≡ Dials host ticket conn → WaitsUntil client w moment until c
+      MustWait s.pool.state moment ticket → IsWaitLimit s.pool.state ticket until → WaitsUntil client w moment until c
+  for_greeting : (host ticket conn dialled : ℕ) → c.check_out ≡ Dials host ticket conn → c.dialled ≡ Some dialled → until ≡ dialled + connect_limit client →
+      WaitsUntil client w moment until c
   for_reply : (asked : ℕ) → c.op.next ≡ next.Read → c.asked ≡ Some asked → until ≡ asked + socket_limit client → WaitsUntil client w moment until c
 
 -- A command waits until a moment that is still to come.

@@ -1,9 +1,13 @@
-ghost use Rattle.std.specs.Prelude.{◌≡◌, ◌≤◌, ◌+◌, ◌^◌, ◌<◌, None, IfOk, IfSome, length, IfNone};
+ghost use Rattle.std.specs.Prelude.{◌≡◌, ◌≢◌, ◌≤◌, ◌+◌, ◌^◌, ◌<◌, None, IfOk, IfSome, OnOk, length, IfNone};
 ghost use Rattle.topo_rules.specs.Laws.{listed_by};
 ghost use Rattle.desk_wire.specs.declared.answers.Pulled.TheVariants as pulled_as;
+ghost use Rattle.cmd_outcome.specs.Replies.{result_in};
+ghost use Rattle.cmd_outcome.specs.declared.reading.ReplyResult.TheVariants as reply_of;
 ghost use Rattle.desk_trail.specs.Owed.{IsReplyOf};
 ghost use Rattle.topo_rules.specs.declared.event.TopoEvent.TheVariants as event_as;
 ghost use Rattle.desk_core.specs.Ends.{IsEndBy, IsOfReply, IsWhole};
+ghost use Rattle.desk_core.specs.Hearing.{Carries, SaysCheck};
+ghost use Rattle.wired_trail.specs.Wired.{IsNoError};
 
 use crate::Memory;
 use bson_doc::{ClusterTime, Document};
@@ -54,6 +58,9 @@ pub fn result_of(
     ensures timed { IfOk result (λ r. IfSome r (λ end. IsOfReply end.how end.time)) }
     ensures few { IfOk result (λ r. IfSome r (λ end. check.entry.hosts + length (listed_by end.event) ≤ 2 ^ 32)) }
     ensures waits { IfOk result (λ r. IfNone r ((pulled ≡ pulled_as.NotYet) × (moment < check.entry.limit))) }
+    ensures says { IfOk result (λ r. IfSome r (λ end. SaysCheck pulled check.entry.hello check.entry.hosts end.how end.event)) }
+    ensures carries { IfOk result (λ r. IfSome r (λ end. Carries pulled end.time)) }
+    ensures memory { OnOk result (pulled ≢ pulled_as.Memory) }
 {
     let how = match pulled {
         Pulled::Whole(message) => {
@@ -97,6 +104,19 @@ pub fn broken(
     })
 }
 
+/// The code of an error reply; None where the reply is none.
+fn error_code(reply: &Document) -> Option<i32>
+    ensures code { IfSome result (λ code. result_in reply.now ≡ reply_of.Error code) }
+    ensures none { IfNone result (IsNoError (result_in reply.now)) }
+{
+    match classify(reply).result {
+        ReplyResult::Error { code } => Some(code),
+        ReplyResult::Ok { .. } | ReplyResult::WriteErrors { .. } | ReplyResult::Concern { .. } => {
+            None
+        }
+    }
+}
+
 /// What a message says that came while the check ran.
 fn read(
     alloc: Global,
@@ -108,12 +128,14 @@ fn read(
     ensures ends { (answer : Pulled) → IsWhole answer → IfOk result (λ end. IsEndBy check.entry.host.now check.entry.began check.entry.limit moment answer end.event end.how) }
     ensures timed { IfOk result (λ end. IsOfReply end.how end.time) }
     ensures few { IfOk result (λ end. check.entry.hosts + length (listed_by end.event) ≤ 2 ^ 32) }
+    ensures says { IfOk result (λ end. SaysCheck (pulled_as.Whole message.now) check.entry.hello check.entry.hosts end.how end.event) }
+    ensures carries { IfOk result (λ end. Carries (pulled_as.Whole message.now) end.time) }
 {
     if message.to != check.hello {
         return broken(alloc, check.host, CheckHow::Bad { at: RESPONSE_TO }, None);
     }
     let time = cluster_time(alloc, &message.body)?;
-    if let ReplyResult::Error { code } = classify(&message.body).result {
+    if let Some(code) = error_code(&message.body) {
         return broken(alloc, check.host, CheckHow::Refused { code }, time);
     }
     match describe(alloc, &message.body, check.host) {
@@ -128,7 +150,10 @@ fn read(
                 time,
             })
         }
+        Ok(_) => broken(alloc, check.host, CheckHow::Refused { code: 0 }, time),
         Err(ReplyFault::Memory) => Err(AllocError),
-        _ => broken(alloc, check.host, CheckHow::Refused { code: 0 }, time),
+        Err(ReplyFault::Field(_) | ReplyFault::Many { .. }) => {
+            broken(alloc, check.host, CheckHow::Refused { code: 0 }, time)
+        }
     }
 }

@@ -1,5 +1,6 @@
 //! A command that waits in the line of a pool is answered (CMAP, Checking Out a Connection).
-ghost use Rattle.std.specs.Prelude.{◌≡◌, ◌≤◌, ◌<◌, ◌^◌, ℕ, true, false, Ok, Some, IfOk, OnOk, slice_get};
+ghost use Rattle.std.specs.Prelude.{◌≡◌, ◌≤◌, ◌<◌, ℕ, true, false, Ok, Some, IfOk, OnOk, slice_get};
+ghost use Rattle.pool_book.specs.Answers.{IsWaitLimit};
 ghost use Rattle.pool_book.specs.Pool.{is_swept};
 ghost use Rattle.desk_trail.specs.Checks.{AtServer};
 ghost use Rattle.desk_trail.specs.States.{ServerState, Waits};
@@ -16,7 +17,6 @@ use crate::closings::closing_of;
 use crate::operation::Operation;
 use crate::progress::Progress;
 use crate::state::Core;
-use cmd_reply::Waiting;
 use cmd_state::CheckOut;
 use cmd_step::{Answer, At};
 use host_name::Host;
@@ -35,15 +35,6 @@ fn line_of(operation: &Operation) -> (u32, Ticket)
         CheckOut::Waits { host, ticket } => (host, ticket),
         CheckOut::Nothing | CheckOut::Dials { .. } | CheckOut::Has { .. } => unreachable!(),
     }
-}
-
-/// A moment so many milliseconds behind another, and behind `moment` in any case.
-fn limit_behind(began: u64, millis: u64, moment: u64) -> u64
-    requires { moment ≤ 2 ^ 62 }
-    ensures { moment < result }
-{
-    let limit = began.saturating_add(millis.saturating_mul(1_000));
-    limit.max(moment + 1)
 }
 
 /// An answer, where it is no refusal of another kind than a pool tells a command that waits in its line.
@@ -135,6 +126,24 @@ impl<N: Net> Core<N> {
         self.servers[host as usize].generation()
     }
 
+    /// Until when a ticket waits in the line of the pool of the server of that number, at a moment at which it is not late.
+    fn line_limit(&self, moment: u64, host: u32, ticket: u64) -> Result<u64, Memory>
+        requires runs { self.now.is_stopped ≡ false }
+        ensures limit { IfOk result (λ until. AtServer self.now.trail.point.state host (λ s. IsWaitLimit s.pool.state ticket until)) }
+        ensures later { IfOk result (λ until. moment < until) }
+    {
+        let Some(server) = self.servers.get(host as usize) else {
+            // (cannot be: a command waits in the line of a server that was named)
+            return Err(AllocError);
+        };
+        // (cannot be: the ticket waits, entered at a step's moment, and is not late)
+        let until = server.wait_limit(ticket).ok_or(AllocError)?;
+        if until <= moment {
+            return Err(AllocError);
+        }
+        Ok(until)
+    }
+
     /// Offers the event that a server is broken, which must come next where the server stands in the topology still (SDAM, Error
     /// handling). `address` is the server's, `generation` that of the pool's connection.
     pub fn offer_broken(
@@ -178,7 +187,7 @@ impl<N: Net> Core<N> {
         ensures faults { N.faults self.old.net ≤ N.faults self.new.net }
         ensures means { IfOk result (MeansPhase self.old.trail.client self.new.trail.point.state moment operation.new) }
     {
-        let (host, ticket) = line_of(operation);
+        let (host, _) = line_of(operation);
         // (cannot be: a command waits in the line of a server that was named)
         if self.servers.len() <= host as usize {
             return Err(AllocError);
@@ -188,9 +197,7 @@ impl<N: Net> Core<N> {
         match self.check_out_at(alloc, moment, op, host, operation)? {
             Answer::Lent { .. } | Answer::Refused { .. } => Ok(Progress::Done),
             Answer::Dials { hello, .. } => {
-                let millis = self.wired.settings().connect_ms;
-                let limit = limit_behind(moment, millis, moment);
-                operation.waiting = Waiting { id: hello, limit };
+                operation.awaited = hello;
                 Ok(Progress::Done)
             }
             Answer::Failed { .. } => {
@@ -199,8 +206,8 @@ impl<N: Net> Core<N> {
                 Ok(Progress::Done)
             }
             Answer::Wait => {
-                let millis = self.wired.settings().wait_ms;
-                let until = limit_behind(ticket.entered, millis, moment);
+                let (_, ticket) = line_of(operation);
+                let until = self.line_limit(moment, host, ticket.number)?;
                 Ok(Progress::Wait { until })
             }
         }

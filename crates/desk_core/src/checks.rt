@@ -12,18 +12,20 @@ ghost use Rattle.net_link.specs.Causes.{HasCause, Rose};
 ghost use Rattle.topo_book.specs.Means.{stands_known};
 ghost use Rattle.topo_rules.specs.declared.event.TopoEvent.TheVariants as event_as;
 ghost use Rattle.topo_rules.specs.Laws.{listed_by};
+ghost use Rattle.wired_trail.specs.Hearing.{HasUntoldDial, told_of};
 ghost use Rattle.wired_trail.specs.Lines.{line_at};
 ghost use Rattle.wired_trail.specs.declared.lines.Line.{Line};
 ghost use Rattle.wired_trail.specs.declared.stream_use.StreamUse.TheVariants as for_use;
 ghost use Rattle.desk_core.specs.Appends.{AppendsAside};
 ghost use Rattle.desk_core.specs.Follows.{IsToOffer};
+ghost use Rattle.desk_core.specs.Hearing.{HasComeWith, HeardReply};
 ghost use Rattle.desk_core.specs.Kept.{IsReady, IsToBegin, IsWriting};
 ghost use Rattle.desk_core.specs.Rests.{HasBegun, HasEnded, KeepsChecks};
 ghost use Rattle.desk_core.specs.Sights.{IsAtRest, IsAwaited};
 
 use crate::Memory;
 use crate::check_result::{CheckResult, Running, broken};
-use crate::driven::{drive, limit_of};
+use crate::driven::{EndAt, drive, limit_of, tell_end};
 use crate::hello::{hello_bytes, id_of};
 use crate::state::Core;
 use bson_doc::{Bytes, ClusterTime};
@@ -104,6 +106,7 @@ impl<N: Net> Core<N> {
         ensures same { self.new ≡ record self.old { net = self.new.net; lines = self.new.lines } }
         ensures stream { IfOk result (λ r. IfSome r (λ stream. IsNew self.old.trail.point.state stream
             × (line_at self.new.lines stream ≡ Some (record { wire = opened stream; is_for = for_use.Check host })))) }
+        ensures untold { N.tells → result ≡ Ok None → HasUntoldDial (N.history self.new.net) self.new.trail }
         ensures cause { HasCause (N.faults self.old.net) (N.faults self.new.net) (result ≡ Ok None) }
     {
         let address = self.servers[host as usize].host().text(alloc)?;
@@ -152,6 +155,7 @@ impl<N: Net> Core<N> {
         ensures faults { N.faults self.old.net ≤ N.faults self.new.net }
         ensures appends { AppendsAside ⊥ moment self.old.trail self.new.trail }
     {
+        self.check_free(stream)?;
         let place = self.wired.requests().len();
         let (request, bytes) = check_hello(alloc, host, stream, place, first)?;
         let id = request.id;
@@ -169,6 +173,7 @@ impl<N: Net> Core<N> {
     fn end_undialled(&mut self, alloc: Global, moment: u64, host: u32) -> Result<(), Memory>
         requires begins { (rest : List Owed) × IsToBegin self.old moment host rest }
         requires due { AtServer self.old.trail.point.state host (λ s. IsDue moment s × (s.check_stream ≡ None)) }
+        requires untold { N.tells → HasUntoldDial (N.history self.old.net) self.old.trail }
         ensures ok { (rest : List Owed) → IsToBegin self.old moment host rest → OnOk result (IsWriting self.new moment 0 rest) }
         ensures rests { OnOk result (IsAtRest self.new.trail.point.state moment host) }
         ensures faults { N.faults self.old.net ≤ N.faults self.new.net }
@@ -184,7 +189,7 @@ impl<N: Net> Core<N> {
         self.wired.reserve(room)?;
         let known = is_known(&self.topology, self.servers[host as usize].host());
         self.wired
-            .append(moment, Entry::CheckEnded { host, how: end.how });
+            .tell_undialled(moment, Entry::CheckEnded { host, how: end.how });
         let server = &mut self.servers[host as usize];
         server.end_check(moment, &end.how, known);
         self.offer(alloc, moment, end.event)
@@ -195,9 +200,12 @@ impl<N: Net> Core<N> {
     pub fn hear_time(&mut self, moment: u64, time: Option<ClusterTime>)
         requires writing { (debts : List Owed) × IsWriting self.old moment 1 debts }
         requires reply { time ≢ None → self.old.trail.point.is_reply ≡ true }
+        requires came { N.tells → HasComeWith (N.history self.old.net) time }
         ensures writing { (debts : List Owed) → IsWriting self.old moment 1 debts → IsWriting self.new moment 0 debts }
         ensures servers { self.new.trail.point.state ≡ self.old.trail.point.state }
         ensures names { self.new.trail.lists.names ≡ self.old.trail.lists.names }
+        ensures net { self.new.net ≡ self.old.net }
+        ensures told { (stream : ℕ) → told_of self.new.trail stream ≡ told_of self.old.trail stream }
         ensures faults { N.faults self.old.net ≤ N.faults self.new.net }
         ensures appends { AppendsAside ⊥ moment self.old.trail self.new.trail }
     {
@@ -207,7 +215,7 @@ impl<N: Net> Core<N> {
         if !exceeds(&self.gossip, time.stamp) {
             return;
         }
-        self.wired.append(moment, Entry::Time { stamp: time.stamp });
+        self.wired.tell_time(moment, time.stamp);
         self.gossip.advance(time);
     }
 
@@ -219,10 +227,13 @@ impl<N: Net> Core<N> {
         moment: u64,
         event: TopoEvent,
         time: Option<ClusterTime>,
+        stream: u64,
     ) -> Result<(), Memory>
         requires writing { (first : Owed) × IsWriting self.old moment 1 (first ∷ []) × IsToOffer first event }
         requires reply { time ≢ None → self.old.trail.point.is_reply ≡ true }
         requires count { length self.old.trail.lists.names + length (listed_by event) ≤ 2 ^ 32 }
+        requires heard { N.tells → HeardReply (N.history self.old.net) self.old.trail stream event }
+        requires came { N.tells → HasComeWith (N.history self.old.net) time }
         ensures ok { OnOk result (IsReady self.new moment) }
         ensures checks { OnOk result (KeepsChecks (offered_after moment event self.old.trail.point.state) self.new.trail.point.state) }
         ensures unknown { OnOk result ((host : Address) → event ≡ event_as.Broken host None → stands_known self.new.trail.point.state.topology host ≡ false) }
@@ -230,6 +241,7 @@ impl<N: Net> Core<N> {
         ensures appends { AppendsAside ⊥ moment self.old.trail self.new.trail }
     {
         self.hear_time(moment, time);
+        self.check_reply(&event, stream)?;
         self.offer(alloc, moment, event)
     }
 
@@ -268,10 +280,10 @@ impl<N: Net> Core<N> {
             Ok(Some(end)) => {
                 let CheckResult { how, event, time } = end;
                 let known = is_known(&self.topology, self.servers[host as usize].host());
-                self.wired.append(moment, Entry::CheckEnded { host, how });
+                tell_end(&mut self.wired, moment, EndAt { host, stream }, how);
                 let server = &mut self.servers[host as usize];
                 server.end_check(moment, &how, known);
-                self.follow_end(alloc, moment, event, time)?;
+                self.follow_end(alloc, moment, event, time, stream)?;
                 Ok(None)
             }
             Err(memory) => {

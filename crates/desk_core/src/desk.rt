@@ -12,6 +12,7 @@ ghost use Rattle.desk_trail.specs.Attempts.{AtCommand};
 ghost use Rattle.desk_core.specs.Nexts.{IsNextIn};
 ghost use Rattle.desk_core.specs.State.{AreShallow, now_of};
 ghost use Rattle.desk_core.specs.Steps.{MeansStep};
+ghost use Rattle.wired_trail.specs.Wired.{IsWired};
 
 use crate::counts::InFlight;
 use crate::lanes::next_in;
@@ -113,9 +114,11 @@ impl<N: Net, P: Picker> Desk<N, P> {
         self.core.is_stopped()
     }
 
-    /// All that it did so far, entry by entry: a legal trail, and a complete one unless the desk stopped.
+    /// All that it did so far, entry by entry: a legal trail, and a complete one unless the desk stopped. Where the net tells, it is
+    /// what that told.
     pub fn steps(&self) -> &[Step]
         ensures value { result.now ≡ self.now.trail.steps }
+        ensures wired { N.tells → IsWired self.now.trail.client (N.history self.now.net) (facts_of self.now.trail.lists self.now.trail.steps) }
         ensures legal { IsLegal self.now.trail.client self.now.trail.lists self.now.trail.steps }
         ensures complete { self.now.is_stopped ≡ false → IsComplete self.now.trail.client self.now.trail.lists self.now.trail.steps }
     {
@@ -215,7 +218,9 @@ impl<N: Net, P: Picker> Desk<N, P> {
 
     /// Ends it: farewells are asked of the sessions that were given back (Driver Sessions, endSessions), as far as there is memory
     /// for them; then its pools are closed. A desk that stopped appends nothing to its trail.
+    /// Where the net tells, the trail is what that told.
     pub fn finish(self, alloc: Global, moment: u64) -> Finished<N, P>
+        ensures wired { N.tells → IsWired self.trail.client (N.history result.net) (facts_of (lists_of result.trail) result.trail.steps) }
         ensures legal { IsLegal self.trail.client (lists_of result.trail) result.trail.steps }
         ensures complete { self.is_stopped ≡ false → IsComplete self.trail.client (lists_of result.trail) result.trail.steps }
         ensures shut { self.is_stopped ≡ false

@@ -1,17 +1,23 @@
 //! A command waits for the greeting of the connection that it dialled (CMAP, Establishing a Connection; MongoDB Handshake).
-ghost use Rattle.std.specs.Prelude.{◌≡◌, ◌≢◌, ◌≤◌, ◌<◌, ◌+◌, ℕ, None, false, true, IfNone, IfOk, IfSome, OnOk};
+ghost use Rattle.std.specs.Prelude.{◌≡◌, ◌≢◌, ◌≤◌, ◌<◌, ◌+◌, ℕ, Bool, List, None, false, true, IfNone, IfOk, IfSome, OnOk};
 ghost use Rattle.std.specs.Option.{option_map};
 ghost use Rattle.bson_doc.specs.declared.cluster_time.ClusterTime.{ClusterTime as Time};
 ghost use Rattle.cmd_step.specs.Losses.{IsLoss};
 ghost use Rattle.desk_trail.specs.Checks.{AtServer};
+ghost use Rattle.desk_trail.specs.Clients.{Client, connect_limit};
+ghost use Rattle.desk_trail.specs.Facts as fact;
 ghost use Rattle.desk_trail.specs.Legal.{is_greeting};
 ghost use Rattle.desk_trail.specs.States.{Dials};
 ghost use Rattle.net_link.specs.Causes.{Rose};
+ghost use Rattle.net_link.specs.declared.event.NetEvent.{NetEvent};
+ghost use Rattle.wired_trail.specs.Hearing.{TellsHeard};
 ghost use Rattle.wired_trail.specs.Lines.{IsThere, KeepsOthers};
+ghost use Rattle.wired_trail.specs.Wired.{HasCome};
 ghost use Rattle.desk_core.specs.Appends.{Appends, AppendsAside};
 ghost use Rattle.desk_core.specs.CheckOuts.{IsToOfferLoss, KeepsAddress, heard, news_of};
 ghost use Rattle.desk_core.specs.Commands.{IsAtWork, MovesOne};
 ghost use Rattle.desk_core.specs.Greetings.{IsDialledBy, IsDialledOn};
+ghost use Rattle.desk_core.specs.Hearing.{HasComeWith, HearsGreeting};
 ghost use Rattle.desk_core.specs.Kept.{IsReady};
 ghost use Rattle.desk_core.specs.Steps.{MeansPhase};
 ghost use Rattle.desk_core.specs.declared.progress.Progress.TheVariants as progress;
@@ -26,12 +32,21 @@ use bson_doc::ClusterTime;
 use cmd_reply::{GreetingResult, Waiting, greeting_result};
 use cmd_state::{CheckOut, RunningCommand};
 use cmd_step::{At, Greeted, Loss, lose, settle};
+use conn_uri::Settings;
 use host_name::Host;
 use net_link::Net;
 use std::alloc::{AllocError, Global};
 use time_gossip::TimeGossip;
 use wired_trail::{StreamUse, WiredTrail};
 use write_retry::Unsent;
+
+/// Until when the greeting of a connection is waited for that was dialled at a moment (URI Options, connectTimeoutMS); None where
+/// that is more than there can be.
+fn greeting_limit(settings: &Settings, dialled: u64) -> Option<u64>
+    ensures limit { IfSome result (λ limit. (client : Client) → client.settings ≡ settings.now → limit ≡ dialled + connect_limit client) }
+{
+    dialled.checked_add(settings.connect_ms * 1_000)
+}
 
 /// A connection that a command dialled, and whose greeting is waited for.
 #[derive(Clone, Copy, Drop)]
@@ -62,6 +77,7 @@ pub struct DialledAt {
 fn take_news(gossip: &mut TimeGossip, time: Option<ClusterTime>) -> Option<u64>
     ensures news { result ≡ option_map (λ (t : Time). t.stamp) (news_of gossip.old time) }
     ensures greatest { gossip.new ≡ heard gossip.old time }
+    ensures came { (history : List NetEvent) → HasComeWith history time → IfSome result (HasCome history) }
 {
     let Some(time) = time else {
         return None;
@@ -86,9 +102,10 @@ fn hear<N: Net>(
     ensures trail { wired.new.trail ≡ wired.old.trail }
     ensures others { KeepsOthers stream wired.old.lines wired.new.lines }
     ensures early { IfOk result (λ r. IfNone r (moment < waiting.limit)) }
+    ensures hears { N.tells → IfOk result (λ r. IfSome r (HearsGreeting (N.history wired.new.net) wired.new.trail stream waiting moment)) }
     ensures faults { N.faults wired.old.net ≤ N.faults wired.new.net }
 {
-    let pulled = wired.turn(alloc, stream);
+    let pulled = wired.turn(alloc, stream, waiting.id);
     greeting_result(alloc, waiting, moment, pulled)
 }
 
@@ -143,6 +160,7 @@ impl<N: Net> Core<N> {
         ensures same { self.new ≡ record self.old { net = self.new.net; lines = self.new.lines; trail = record self.old.trail { room = self.new.trail.room } } }
         ensures room { OnOk result (self.new.closings + 5 ≤ self.new.trail.room.steps) }
         ensures early { IfOk result (λ r. IfNone r (moment < waiting.limit)) }
+        ensures hears { N.tells → IfOk result (λ r. IfSome r (HearsGreeting (N.history self.new.net) self.new.trail dialled.stream waiting moment)) }
         ensures faults { N.faults self.old.net ≤ N.faults self.new.net }
     {
         let room = room_for(self.closings, 5, 0)?;
@@ -161,6 +179,9 @@ impl<N: Net> Core<N> {
         requires work { IsAtWork self.old at.moment at.op operation.old }
         requires dialled { IsDialledBy self.old.trail.point.state operation.old at.dialled }
         requires room { self.old.closings + 5 ≤ self.old.trail.room.steps }
+        requires heard { N.tells → (stale : Bool) → TellsHeard (N.history self.old.net) self.old.trail at.moment
+            (fact.Settled at.op at.dialled.host at.dialled.conn stale) }
+        requires came { N.tells → HasComeWith (N.history self.old.net) time }
         ensures ready { IsReady self.new at.moment }
         ensures moves { MovesOne at.op operation.new self.old.trail self.new.trail }
         ensures appends { Appends ⊥ at.moment self.old.trail self.new.trail }
@@ -171,10 +192,15 @@ impl<N: Net> Core<N> {
             op,
             dialled,
         } = at;
-        let Dialled { host, conn, .. } = dialled;
+        let Dialled {
+            host,
+            conn,
+            stream,
+            ..
+        } = dialled;
         let place = At { op, host, moment };
         let news = take_news(&mut self.gossip, time);
-        let greeted = Greeted { conn, news };
+        let greeted = Greeted { conn, stream, news };
         let server = &mut self.servers[host as usize];
         let before = closing_of(server);
         settle(
@@ -201,6 +227,8 @@ impl<N: Net> Core<N> {
         requires room { self.old.closings + 5 ≤ self.old.trail.room.steps }
         requires loss { IsLoss why }
         requires reply { time ≢ None → is_greeting why ≡ true }
+        requires heard { N.tells → TellsHeard (N.history self.old.net) self.old.trail at.moment (fact.NotLent at.op at.dialled.host why) }
+        requires came { N.tells → HasComeWith (N.history self.old.net) time }
         ensures owes { AtServer self.new.trail.point.state at.dialled.host (IsToOfferLoss self.new at.moment at.dialled.generation why) }
         ensures stays { KeepsAddress at.dialled.host self.old.trail.point.state self.new.trail.point.state }
         ensures moves { MovesOne at.op operation.new self.old.trail self.new.trail }
@@ -275,6 +303,8 @@ impl<N: Net> Core<N> {
         requires room { self.old.closings + 5 ≤ self.old.trail.room.steps }
         requires loss { IsLoss why }
         requires reply { time ≢ None → is_greeting why ≡ true }
+        requires heard { N.tells → TellsHeard (N.history self.old.net) self.old.trail at.moment (fact.NotLent at.op at.dialled.host why) }
+        requires came { N.tells → HasComeWith (N.history self.old.net) time }
         requires address { AtServer self.old.trail.point.state at.dialled.host (λ s. address ≡ s.address) }
         ensures ok { OnOk result (IsReady self.new at.moment) }
         ensures done { IfOk result (λ p. p ≡ progress.Done) }
@@ -309,11 +339,15 @@ impl<N: Net> Core<N> {
             return Err(AllocError);
         };
         let address = self.address_of(alloc, dialled.host)?;
-        let waiting = operation.waiting;
+        // (cannot be: it dialled that connection in this attempt)
+        let since = operation.running.dialled().ok_or(AllocError)?;
+        let limit = greeting_limit(self.wired.settings(), since).ok_or(AllocError)?;
+        let waiting = Waiting {
+            id: operation.awaited,
+            limit,
+        };
         let Some(result) = self.turn_greeting(alloc, moment, dialled, waiting)? else {
-            return Ok(Progress::Wait {
-                until: waiting.limit,
-            });
+            return Ok(Progress::Wait { until: limit });
         };
         let at = DialledAt {
             moment,

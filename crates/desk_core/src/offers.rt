@@ -15,6 +15,8 @@ ghost use Rattle.desk_trail.specs.Topologies.{Says, asks_of, offered_after};
 ghost use Rattle.desk_core.specs.Answered.{added_by, removed_by};
 ghost use Rattle.desk_core.specs.Appends.{AppendsAside};
 ghost use Rattle.desk_core.specs.Follows.{AreApart, IsNone, IsToOffer, asked_in, entries_for, owed_by};
+ghost use Rattle.wired_trail.specs.Hearing.{OffersOf};
+ghost use Rattle.desk_core.specs.Hearing.{IsReplyOn, OffersHeard};
 ghost use Rattle.desk_core.specs.Kept.{IsWriting};
 ghost use Rattle.desk_core.specs.Rests.{KeepsChecks};
 ghost use Rattle.desk_core.specs.Servers.{IsUntouched};
@@ -91,6 +93,33 @@ impl<N: Net> Core<N> {
         }
     }
 
+    /// The stream of the checks of an event's server, where the event is a reply's.
+    fn check_stream_of(&self, event: &TopoEvent) -> Option<u64>
+        requires { self.now.is_stopped ≡ false }
+        ensures { OffersOf self.now.trail.point.state result event.now }
+    {
+        match event {
+            TopoEvent::Reply { description, .. } => {
+                let host = self.number_of(&description.host)?;
+                self.servers.get(host as usize)?.check_stream()
+            }
+            TopoEvent::Broken { .. } | TopoEvent::Refused { .. } => None,
+        }
+    }
+
+    /// A reply that is to be offered came on the stream of its server's checks.
+    pub fn check_reply(&self, event: &TopoEvent, stream: u64) -> Result<(), Memory>
+        requires { self.now.is_stopped ≡ false }
+        ensures on { OnOk result (IsReplyOn self.now.trail.point.state stream event.now) }
+    {
+        match (event, self.check_stream_of(event)) {
+            (TopoEvent::Broken { .. } | TopoEvent::Refused { .. }, _) => Ok(()),
+            (TopoEvent::Reply { .. }, Some(kept)) if kept == stream => Ok(()),
+            // (cannot be: the server of a check that ended by its reply stands in the topology, and keeps the check's stream)
+            (TopoEvent::Reply { .. }, _) => Err(AllocError),
+        }
+    }
+
     /// Names the hosts, in this order.
     pub fn name_all(&mut self, alloc: Global, moment: u64, hosts: &[Host]) -> Result<(), Memory>
         requires writing { (rest : List Owed) × (n : ℕ)
@@ -139,6 +168,7 @@ impl<N: Net> Core<N> {
     pub fn offer(&mut self, alloc: Global, moment: u64, event: TopoEvent) -> Result<(), Memory>
         requires writing { (first : Owed) × (rest : List Owed) × IsWriting self.old moment 0 (first ∷ rest) × IsToOffer first event }
         requires count { length self.old.trail.lists.names + length (listed_by event) ≤ 2 ^ 32 }
+        requires heard { N.tells → OffersHeard (N.history self.old.net) self.old.trail event }
         ensures ok { (first : Owed) (rest : List Owed) → IsWriting self.old moment 0 (first ∷ rest) → OnOk result (IsWriting self.new moment 0 rest) }
         ensures checks { OnOk result (KeepsChecks (offered_after moment event self.old.trail.point.state) self.new.trail.point.state) }
         ensures unknown { OnOk result ((host : Address) → event ≡ event_as.Broken host None → stands_known self.new.trail.point.state.topology host ≡ false) }
@@ -148,6 +178,7 @@ impl<N: Net> Core<N> {
     {
         let generation = self.generation_of(event.host());
         let asked = self.asked_by(&event);
+        let stream = self.check_stream_of(&event);
         let copy = event.copy(alloc)?;
         let taken = self.topology.offer(alloc, copy, generation)?;
         let Some(room) = room_for(self.closings, &taken) else {
@@ -160,7 +191,7 @@ impl<N: Net> Core<N> {
         }
         topo_rules::laws::moves_are_bounded();
         topo_rules::laws::nothing_else_stands();
-        self.wired.offer(moment, event, said_of(&taken));
+        self.wired.offer(moment, event, said_of(&taken), stream);
         match taken {
             Taken::Accepted(change) => {
                 ask_at(&mut self.servers, moment, asked);

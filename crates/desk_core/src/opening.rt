@@ -63,6 +63,7 @@ pub fn core_of<N: Net>(
     moment: u64,
 ) -> Result<Core<N>, N>
     requires moment { moment ≤ 2 ^ 62 }
+    requires fresh { N.tells → N.history net ≡ [] }
     ensures client { IfOk result (λ d. d.trail.client ≡ record { settings = settings; commands = commands; began = moment }) }
     ensures ready { IfOk result (λ d. IsReady d moment) }
     ensures net { IfOk result (λ d. d.net ≡ net) }

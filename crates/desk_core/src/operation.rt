@@ -2,15 +2,14 @@ ghost use Rattle.std.specs.Prelude.{◌≡◌};
 ghost use Rattle.desk_trail.specs.States.{fresh_command};
 
 use cmd_build::Command;
-use cmd_reply::Waiting;
 use cmd_state::RunningCommand;
 use std::marker::Model;
 
-/// A command on its way, and the request of it, or of the connection that it dials, whose answer is waited for.
+/// A command on its way, and the id of the request, of it or of the connection that it dials, whose answer is waited for.
 #[derive(Drop)]
 pub struct Operation {
     pub running: RunningCommand,
-    pub waiting: Waiting,
+    pub awaited: i32,
 }
 
 impl Model for Operation {
@@ -28,7 +27,7 @@ impl Operation {
     {
         Operation {
             running: RunningCommand::new(command),
-            waiting: Waiting { id: 0, limit: 0 },
+            awaited: 0,
         }
     }
 }

@@ -8,13 +8,17 @@ ghost use Rattle.write_retry.specs.declared.attempt_end.AttemptEnd.TheVariants a
 ghost use Rattle.write_retry.specs.declared.events.Next.TheVariants as next_of;
 ghost use Rattle.desk_trail.specs.Attempts.{IsEnd, end_owes, is_failure, refused_by};
 ghost use Rattle.desk_trail.specs.Clients.{Client, socket_limit};
+ghost use Rattle.desk_trail.specs.Facts as fact;
 ghost use Rattle.desk_trail.specs.Legal.{is_replied};
 ghost use Rattle.desk_trail.specs.Owed.{Owed};
 ghost use Rattle.desk_trail.specs.Owed as owed;
 ghost use Rattle.desk_trail.specs.States.{Nothing};
+ghost use Rattle.desk_trail.specs.Streams.{stream_at};
+ghost use Rattle.wired_trail.specs.Hearing.{TellsHeard};
 ghost use Rattle.wired_trail.specs.Lines.{IsThere, KeepsOthers};
 ghost use Rattle.desk_core.specs.Appends.{Appends, AppendsAside};
 ghost use Rattle.desk_core.specs.Commands.{IsAtWork, MovesOne};
+ghost use Rattle.desk_core.specs.Hearing.{HasComeWith, HearsAttempt, IsNoReply};
 ghost use Rattle.desk_core.specs.Kept.{IsReady, IsWriting};
 ghost use Rattle.desk_core.specs.Lending.{IsLentTo, IsOnStream};
 ghost use Rattle.desk_core.specs.Receiving.{FailsBy, IsHeard, offers};
@@ -29,7 +33,7 @@ use crate::progress::Progress;
 use crate::state::Core;
 use cmd_outcome::Reading;
 use cmd_reply::{AttemptResult, Waiting, attempt_result};
-use cmd_step::end_attempt;
+use cmd_step::{AskedAt, end_attempt};
 use conn_uri::Settings;
 use net_link::Net;
 use server_state::Server;
@@ -64,6 +68,7 @@ fn refused_of(
     reading: &Reading,
 ) -> Result<Option<TopoEvent>, Memory>
     requires stays { server.now.has_left ≡ false }
+    ensures no_reply { IfOk result (λ event. IfSome event IsNoReply) }
     ensures offers { IfOk result (λ event. refused_by reading.now (Some (record { server = server.now; generation = generation })) ≡ offers event) }
 {
     let Some(change) = reading.state else {
@@ -90,6 +95,7 @@ fn offered_by(
     ensures owes { IfOk result (λ event. (op : ℕ) → end_owes op (Some (record { server = server.now; generation = generation })) end.now
         ≡ offers event ++ owed.CheckedIn op (is_failure end.now) ∷ []) }
     ensures lists_none { IfOk result (λ event. IfSome event (λ e. listed_by e ≡ [])) }
+    ensures no_reply { IfOk result (λ event. IfSome event IsNoReply) }
 {
     if server.has_left() {
         return Ok(None);
@@ -121,9 +127,10 @@ fn hear<N: Net>(
     ensures early { IfOk result (λ r. IfNone r (moment < waiting.limit)) }
     ensures heard { IfOk result (λ r. IfSome r (IsHeard waiting.limit moment)) }
     ensures faults { N.faults wired.old.net ≤ N.faults wired.new.net }
+    ensures hears { N.tells → IfOk result (λ r. IfSome r (HearsAttempt (N.history wired.new.net) wired.new.trail stream waiting moment)) }
     ensures cause { IfOk result (λ r. IfSome r (λ e. HasCause (N.faults wired.old.net) (N.faults wired.new.net) (e.end ≡ attempt.Fault))) }
 {
-    let pulled = wired.turn(alloc, stream);
+    let pulled = wired.turn(alloc, stream, waiting.id);
     attempt_result(alloc, waiting, moment, pulled)
 }
 
@@ -177,14 +184,14 @@ impl<N: Net> Core<N> {
         ensures faults { N.faults self.old.net ≤ N.faults self.new.net }
     {
         let waiting = Waiting {
-            id: operation.waiting.id,
+            id: operation.awaited,
             limit,
         };
         let came = hear(alloc, &mut self.wired, stream, waiting, at.moment)?;
         match came {
             None => Ok(Progress::Wait { until: limit }),
             Some(ended) => {
-                self.end_behind(alloc, operation, at, ended)?;
+                self.end_behind(alloc, operation, at, stream, ended)?;
                 Ok(Progress::Done)
             }
         }
@@ -196,6 +203,7 @@ impl<N: Net> Core<N> {
         alloc: Global,
         operation: &mut Operation,
         at: LentAt,
+        stream: u64,
         ended: AttemptResult,
     ) -> Result<(), Memory>
         requires work { IsAtWork self.old at.moment at.op operation.old }
@@ -204,6 +212,9 @@ impl<N: Net> Core<N> {
         requires behind { IsBehindRequest ended.end }
         requires ends { IsEnd self.old.trail.client at.moment ended.end operation.old }
         requires replied { ended.time ≢ None → is_replied ended.end ≡ true }
+        requires on { stream_at self.old.trail.point.state at.op ≡ Some stream }
+        requires heard { N.tells → TellsHeard (N.history self.old.net) self.old.trail at.moment (fact.Ended at.op ended.end) }
+        requires came { N.tells → HasComeWith (N.history self.old.net) ended.time }
         ensures ok { OnOk result (IsReady self.new at.moment) }
         ensures moves { OnOk result (MovesOne at.op operation.new self.old.trail self.new.trail) }
         ensures free { OnOk result (operation.new.check_out ≡ Nothing) }
@@ -212,7 +223,7 @@ impl<N: Net> Core<N> {
     {
         let LentAt { moment, op, .. } = at;
         let AttemptResult { end, time } = ended;
-        let event = self.write_end(alloc, operation, at, end)?;
+        let event = self.write_end(alloc, operation, at, stream, end)?;
         self.hear_time(moment, time);
         self.offer_some(alloc, moment, event)?;
         self.make_room(3)?;
@@ -226,6 +237,7 @@ impl<N: Net> Core<N> {
         alloc: Global,
         operation: &mut Operation,
         at: LentAt,
+        stream: u64,
         end: AttemptEnd,
     ) -> Result<Option<TopoEvent>, Memory>
         requires work { IsAtWork self.old at.moment at.op operation.old }
@@ -233,8 +245,11 @@ impl<N: Net> Core<N> {
         requires lent { IsLentTo self.old.trail.point.state operation.old at.lent }
         requires behind { IsBehindRequest end }
         requires ends { IsEnd self.old.trail.client at.moment end operation.old }
+        requires on { stream_at self.old.trail.point.state at.op ≡ Some stream }
+        requires heard { N.tells → TellsHeard (N.history self.old.net) self.old.trail at.moment (fact.Ended at.op end) }
         ensures writing { IfOk result (λ event. IsWriting self.new at.moment 4 (offers event ++ owed.CheckedIn at.op (is_failure end) ∷ [])) }
         ensures lists_none { IfOk result (λ event. IfSome event (λ e. listed_by e ≡ [])) }
+        ensures no_reply { IfOk result (λ event. IfSome event IsNoReply) }
         ensures count { OnOk result (length self.new.trail.lists.names ≤ 2 ^ 32) }
         ensures reply { OnOk result (self.new.trail.point.is_reply ≡ is_replied end) }
         ensures moves { OnOk result (MovesOne at.op operation.new self.old.trail self.new.trail) }
@@ -245,13 +260,12 @@ impl<N: Net> Core<N> {
         let event = offered_by(alloc, server, at.lent.generation, &end)?;
         let room = room_for(self.closings, 5, 0)?;
         self.wired.reserve(room)?;
-        end_attempt(
-            &mut self.wired,
-            at.moment,
-            at.op,
-            &mut operation.running,
-            end,
-        );
+        let asked = AskedAt {
+            op: at.op,
+            stream,
+            moment: at.moment,
+        };
+        end_attempt(&mut self.wired, asked, &mut operation.running, end);
         Ok(event)
     }
 
@@ -264,6 +278,7 @@ impl<N: Net> Core<N> {
     ) -> Result<(), Memory>
         requires writing { (rest : List Owed) × IsWriting self.old moment 0 (offers event ++ rest) }
         requires lists_none { IfSome event (λ e. listed_by e ≡ []) }
+        requires no_reply { IfSome event IsNoReply }
         requires count { length self.old.trail.lists.names ≤ 2 ^ 32 }
         ensures ok { (rest : List Owed) → IsWriting self.old moment 0 (offers event ++ rest) → OnOk result (IsWriting self.new moment 0 rest) }
         ensures faults { N.faults self.old.net ≤ N.faults self.new.net }

@@ -24,7 +24,6 @@ use crate::lending::LentAt;
 use crate::operation::Operation;
 use crate::state::Core;
 use bson_doc::{ClusterTime, Lsid};
-use cmd_reply::Waiting;
 use cmd_state::RunningCommand;
 use cmd_step::{end_too_large, send};
 use net_link::Net;
@@ -159,15 +158,10 @@ impl<N: Net> Core<N> {
         ensures appends { Appends ⊥ at.moment self.old.trail self.new.trail }
         ensures net { self.new.net ≡ self.old.net }
     {
-        let limit = at
-            .moment
-            .saturating_add(self.wired.settings().socket_ms * 1_000);
+        self.check_free(made.request.stream)?;
         let room = room_for(self.closings, 1, 1)?;
         self.wired.reserve(room)?;
-        operation.waiting = Waiting {
-            id: made.request.id,
-            limit,
-        };
+        operation.awaited = made.request.id;
         send(
             &mut self.wired,
             at.moment,

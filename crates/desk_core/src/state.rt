@@ -1,11 +1,14 @@
-ghost use Rattle.std.specs.Prelude.{◌≡◌, false};
+ghost use Rattle.std.specs.Prelude.{◌≡◌, false, None, OnOk};
 ghost use Rattle.desk_trail.specs.States.{number_of};
+ghost use Rattle.wired_trail.specs.Hearing.{told_of};
 
+use crate::Memory;
 use crate::naming::number_from;
 use cmd_build::Command;
 use host_name::Host;
 use net_link::Net;
 use server_state::Server;
+use std::alloc::AllocError;
 use std::marker::Model;
 use time_gossip::TimeGossip;
 use topo_book::TopoBook;
@@ -52,6 +55,18 @@ impl<N: Net> Core<N> {
         ensures { result.now ≡ self.now.trail.client.commands }
     {
         self.wired.commands()
+    }
+
+    /// Each request on a stream that is to carry another was answered.
+    pub fn check_free(&self, stream: u64) -> Result<(), Memory>
+        ensures free { OnOk result (N.tells → (told_of self.now.trail stream).last ≡ None) }
+    {
+        if self.wired.is_free(stream) {
+            Ok(())
+        } else {
+            // (cannot be: a command has its connection alone, and a check begins where none runs)
+            Err(AllocError)
+        }
     }
 
     /// The number of the server that stands in the topology with that address.

@@ -21,7 +21,7 @@ use Rattle.desk_trail.specs.Facts as fact
 use Rattle.desk_trail.specs.Holds.{IsHeldBy}
 use Rattle.desk_trail.specs.Legal.{changed_by, client_after, pool_after}
 use Rattle.desk_trail.specs.Looks.{look_asks, look_by}
-use Rattle.desk_trail.specs.Pools.{check_out_after, conn_streams_after, dials_by, has_by, pool_step, pools_after, ticket_with, waits_now}
+use Rattle.desk_trail.specs.Pools.{check_out_after, conn_streams_after, dials_by, dials_now, has_by, pool_step, pools_after, ticket_with, waits_now}
 use Rattle.desk_trail.specs.Requests.{farewell_by}
 use Rattle.desk_trail.specs.States.{CheckOut, ClientState, CommandState, Dials, Has, Nothing, Waits, changed}
 use Rattle.desk_trail.proofs.HeldLemmas.{AllOk, IsDialling, IsOnce, IsWaiting, dials-behind, entered-rises, gives, has-behind, ok-behind, pays, takes, waits-behind}
@@ -73,17 +73,17 @@ out-kept cs k op g keeps = changed-keeps out_in cs k op g (λ c. ap (λ h. Some 
 out-same : (cs ds : List CommandState) (op : ℕ) → ds ≡ cs → out_at ds op ≡ option_map (λ h. h) (out_at cs op)
 out-same cs ds op e = ap (λ xs. out_at xs op) e ∙ sym (option_map_id (out_at cs op))
 
-out-check_out : (w : ClientState) (f : Fact) (op : ℕ) → out_at (check_out_after w f).commands op ≡ option_map (moved f op) (out_at w.commands op)
-out-check_out w (fact.Entered k host ticket) op = out-changed w.commands k op (waits_now host ticket) (λ h. Waits host ticket) (λ c. refl)
-out-check_out w (fact.Lent k host conn) op = out-changed w.commands k op (λ c. record c { check_out = has_by conn c.check_out }) (has_by conn) (λ c. refl)
-out-check_out w (fact.Dialled k host conn stream) op = out-changed w.commands k op (λ c. record c { check_out = dials_by conn c.check_out }) (dials_by conn) (λ c. refl)
-out-check_out w (fact.NotLent k host why) op = out-changed w.commands k op (λ c. record c { check_out = Nothing }) (λ h. Nothing) (λ c. refl)
-out-check_out w (fact.CheckedIn k host conn errored) op = out-changed w.commands k op (λ c. record c { check_out = Nothing }) (λ h. Nothing) (λ c. refl)
-out-check_out w f op = sym (option_map_id (out_at w.commands op))
+out-check_out : (moment : ℕ) (w : ClientState) (f : Fact) (op : ℕ) → out_at (check_out_after moment w f).commands op ≡ option_map (moved f op) (out_at w.commands op)
+out-check_out moment w (fact.Entered k host ticket) op = out-changed w.commands k op (waits_now host ticket) (λ h. Waits host ticket) (λ c. refl)
+out-check_out moment w (fact.Lent k host conn) op = out-changed w.commands k op (λ c. record c { check_out = has_by conn c.check_out }) (has_by conn) (λ c. refl)
+out-check_out moment w (fact.Dialled k host conn stream) op = out-changed w.commands k op (dials_now moment conn) (dials_by conn) (λ c. refl)
+out-check_out moment w (fact.NotLent k host why) op = out-changed w.commands k op (λ c. record c { check_out = Nothing }) (λ h. Nothing) (λ c. refl)
+out-check_out moment w (fact.CheckedIn k host conn errored) op = out-changed w.commands k op (λ c. record c { check_out = Nothing }) (λ h. Nothing) (λ c. refl)
+out-check_out moment w f op = sym (option_map_id (out_at w.commands op))
 
 out-pool : (w : ClientState) (moment : ℕ) (f : Fact) (op : ℕ) → out_at (pool_after w moment f).commands op ≡ option_map (moved f op) (out_at w.commands op)
 out-pool w moment f op =
-    out-check_out (conn_streams_after (pools_after w moment (pool_step w f)) f) f op
+    out-check_out moment (conn_streams_after (pools_after w moment (pool_step w f)) f) f op
     ∙ ap (λ cs. option_map (moved f op) (out_at cs op)) (Beside-pool w moment f).commands
 
 out-asked_by : (moment : ℕ) (p : Purpose) (w : ClientState) (op : ℕ) → out_at (asked_by moment p w).commands op ≡ out_at w.commands op

@@ -23,7 +23,7 @@ use Rattle.desk_trail.specs.Facts as fact
 use Rattle.desk_trail.specs.Legal.{AreLegal, Point, StandsAt, beginning, changed_by, point_after, point_behind, pool_after}
 use Rattle.desk_trail.specs.Looks.{look_asks, look_by}
 use Rattle.desk_trail.specs.Parts.{command_tells, events_of, of_command}
-use Rattle.desk_trail.specs.Pools.{check_out_after, conn_streams_after, dials_by, has_by, pool_step, pools_after, waits_now}
+use Rattle.desk_trail.specs.Pools.{check_out_after, conn_streams_after, dials_now, has_by, pool_step, pools_after, waits_now}
 use Rattle.desk_trail.specs.Requests.{farewell_by}
 use Rattle.desk_trail.specs.States.{ClientState, CommandState, Nothing, changed, fresh_command}
 use Rattle.desk_trail.proofs.ListLemmas.{changed-keeps, changed-other, changed-same}
@@ -43,17 +43,17 @@ op-changed : (cs : List CommandState) (k op : ℕ) (f : CommandState → Command
     op_at (changed cs k f) op ≡ op_at cs op
 op-changed cs k op f keeps = changed-keeps op_in cs k op f (λ c. ap (λ x. Some x) (keeps c))
 
-op-check_out : (w : ClientState) (f : Fact) (op : ℕ) → op_at (check_out_after w f).commands op ≡ op_at w.commands op
-op-check_out w (fact.Entered k host ticket) op = op-changed w.commands k op (waits_now host ticket) (λ c. refl)
-op-check_out w (fact.Lent k host conn) op = op-changed w.commands k op (λ c. record c { check_out = has_by conn c.check_out }) (λ c. refl)
-op-check_out w (fact.Dialled k host conn stream) op = op-changed w.commands k op (λ c. record c { check_out = dials_by conn c.check_out }) (λ c. refl)
-op-check_out w (fact.NotLent k host why) op = op-changed w.commands k op (λ c. record c { check_out = Nothing }) (λ c. refl)
-op-check_out w (fact.CheckedIn k host conn errored) op = op-changed w.commands k op (λ c. record c { check_out = Nothing }) (λ c. refl)
-op-check_out w f op = refl
+op-check_out : (moment : ℕ) (w : ClientState) (f : Fact) (op : ℕ) → op_at (check_out_after moment w f).commands op ≡ op_at w.commands op
+op-check_out moment w (fact.Entered k host ticket) op = op-changed w.commands k op (waits_now host ticket) (λ c. refl)
+op-check_out moment w (fact.Lent k host conn) op = op-changed w.commands k op (λ c. record c { check_out = has_by conn c.check_out }) (λ c. refl)
+op-check_out moment w (fact.Dialled k host conn stream) op = op-changed w.commands k op (dials_now moment conn) (λ c. refl)
+op-check_out moment w (fact.NotLent k host why) op = op-changed w.commands k op (λ c. record c { check_out = Nothing }) (λ c. refl)
+op-check_out moment w (fact.CheckedIn k host conn errored) op = op-changed w.commands k op (λ c. record c { check_out = Nothing }) (λ c. refl)
+op-check_out moment w f op = refl
 
 op-pool : (w : ClientState) (moment : ℕ) (f : Fact) (op : ℕ) → op_at (pool_after w moment f).commands op ≡ op_at w.commands op
 op-pool w moment f op =
-    op-check_out (conn_streams_after (pools_after w moment (pool_step w f)) f) f op
+    op-check_out moment (conn_streams_after (pools_after w moment (pool_step w f)) f) f op
     ∙ ap (λ cs. op_at cs op) (Beside-pool w moment f).commands
 
 op-asked_by : (moment : ℕ) (p : Purpose) (w : ClientState) (op : ℕ) → op_at (asked_by moment p w).commands op ≡ op_at w.commands op

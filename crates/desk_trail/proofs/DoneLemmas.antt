@@ -49,7 +49,7 @@ look_by-fin w moment looked.Failed c = refl
 look_by-fin w moment (looked.Incompatible x) c = refl
 
 Apart-fin : Apart fin
-Apart-fin = record { outs = λ c h. refl; asks = λ c m. refl; looks = look_by-fin; ends = λ e c. refl; events = λ e c. refl }
+Apart-fin = record { outs = λ c h. refl; dials = λ m n c. refl; asks = λ c m. refl; looks = look_by-fin; ends = λ e c. refl; events = λ e c. refl }
 
 -- it was answered, and holds nothing
 pub record Done (w : ClientState) (op : ℕ) : Type 0 where
@@ -245,7 +245,7 @@ look_by-drawn w moment looked.Failed c = refl
 look_by-drawn w moment (looked.Incompatible x) c = refl
 
 Apart-drawn : Apart drawn
-Apart-drawn = record { outs = λ c h. refl; asks = λ c m. refl; looks = look_by-drawn; ends = λ e c. refl; events = λ e c. refl }
+Apart-drawn = record { outs = λ c h. refl; dials = λ m n c. refl; asks = λ c m. refl; looks = look_by-drawn; ends = λ e c. refl; events = λ e c. refl }
 
 drawn-same : (w : ClientState) (op : ℕ) (number : ℤ) (o : Option CommandState) → option_map drawn o ≡ Some true →
     option_map drawn (option_map (λ (c : CommandState). record c { number = Some number }) o) ≡ Some true

@@ -14,7 +14,7 @@ use Rattle.desk_trail.specs.Facts.{Fact}
 use Rattle.desk_trail.specs.Facts as fact
 use Rattle.desk_trail.specs.Legal.{changed_by, client_after, pool_after}
 use Rattle.desk_trail.specs.Looks.{look_asks, look_by}
-use Rattle.desk_trail.specs.Pools.{check_out_after, conn_streams_after, dials_by, has_by, pool_step, pools_after, waits_now}
+use Rattle.desk_trail.specs.Pools.{check_out_after, conn_streams_after, dials_by, dials_now, has_by, pool_step, pools_after, waits_now}
 use Rattle.desk_trail.specs.Requests.{farewell_by}
 use Rattle.desk_trail.specs.States.{CheckOut, ClientState, CommandState, Nothing, Waits, changed}
 use Rattle.desk_trail.proofs.ListLemmas.{changed-keeps}
@@ -26,6 +26,7 @@ read r cs op = option_map r (slice_get cs op)
 -- no other entry changes it
 pub record Apart {B : Type 0} (r : CommandState → B) : Type 0 where
   pub outs : (c : CommandState) (h : CheckOut) → r (record c { check_out = h }) ≡ r c
+  pub dials : (moment conn : ℕ) (c : CommandState) → r (dials_now moment conn c) ≡ r c
   pub asks : (c : CommandState) (m : Option ℕ) → r (record c { asked = m }) ≡ r c
   pub looks : (w : ClientState) (moment : ℕ) (h : LookedHow) (c : CommandState) → r (look_by w moment h c) ≡ r c
   pub ends : (end : AttemptEnd) (c : CommandState) → r (end_by end c) ≡ r c
@@ -42,17 +43,17 @@ is_plain (fact.Returned op dirty kept) = false
 is_plain (fact.Finished op outcome) = false
 is_plain f = true
 
-check_out-kept : {B : Type 0} (r : CommandState → B) → Apart r → (w : ClientState) (f : Fact) (op : ℕ) → read r (check_out_after w f).commands op ≡ read r w.commands op
-check_out-kept r a w (fact.Entered k host ticket) op = kept r w.commands k op (waits_now host ticket) (λ c. a.outs c (Waits host ticket))
-check_out-kept r a w (fact.Lent k host conn) op = kept r w.commands k op (λ c. record c { check_out = has_by conn c.check_out }) (λ c. a.outs c (has_by conn c.check_out))
-check_out-kept r a w (fact.Dialled k host conn stream) op = kept r w.commands k op (λ c. record c { check_out = dials_by conn c.check_out }) (λ c. a.outs c (dials_by conn c.check_out))
-check_out-kept r a w (fact.NotLent k host why) op = kept r w.commands k op (λ c. record c { check_out = Nothing }) (λ c. a.outs c Nothing)
-check_out-kept r a w (fact.CheckedIn k host conn errored) op = kept r w.commands k op (λ c. record c { check_out = Nothing }) (λ c. a.outs c Nothing)
-check_out-kept r a w f op = refl
+check_out-kept : {B : Type 0} (r : CommandState → B) → Apart r → (moment : ℕ) (w : ClientState) (f : Fact) (op : ℕ) → read r (check_out_after moment w f).commands op ≡ read r w.commands op
+check_out-kept r a moment w (fact.Entered k host ticket) op = kept r w.commands k op (waits_now host ticket) (λ c. a.outs c (Waits host ticket))
+check_out-kept r a moment w (fact.Lent k host conn) op = kept r w.commands k op (λ c. record c { check_out = has_by conn c.check_out }) (λ c. a.outs c (has_by conn c.check_out))
+check_out-kept r a moment w (fact.Dialled k host conn stream) op = kept r w.commands k op (dials_now moment conn) (a.dials moment conn)
+check_out-kept r a moment w (fact.NotLent k host why) op = kept r w.commands k op (λ c. record c { check_out = Nothing }) (λ c. a.outs c Nothing)
+check_out-kept r a moment w (fact.CheckedIn k host conn errored) op = kept r w.commands k op (λ c. record c { check_out = Nothing }) (λ c. a.outs c Nothing)
+check_out-kept r a moment w f op = refl
 
 pool-kept : {B : Type 0} (r : CommandState → B) → Apart r → (w : ClientState) (moment : ℕ) (f : Fact) (op : ℕ) → read r (pool_after w moment f).commands op ≡ read r w.commands op
 pool-kept r a w moment f op =
-    check_out-kept r a (conn_streams_after (pools_after w moment (pool_step w f)) f) f op
+    check_out-kept r a moment (conn_streams_after (pools_after w moment (pool_step w f)) f) f op
     ∙ ap (λ cs. read r cs op) (Beside-pool w moment f).commands
 
 asked-kept : {B : Type 0} (r : CommandState → B) → Apart r → (moment : ℕ) (p : Purpose) (w : ClientState) (op : ℕ) → read r (asked_by moment p w).commands op ≡ read r w.commands op

@@ -45,7 +45,7 @@ look_by-sess w moment looked.Failed c = refl
 look_by-sess w moment (looked.Incompatible x) c = refl
 
 Apart-sess : Apart sess
-Apart-sess = record { outs = λ c h. refl; asks = λ c m. refl; looks = look_by-sess; ends = λ e c. refl; events = λ e c. refl }
+Apart-sess = record { outs = λ c h. refl; dials = λ m n c. refl; asks = λ c m. refl; looks = look_by-sess; ends = λ e c. refl; events = λ e c. refl }
 
 -- ---- Sessions that are out
 

@@ -83,13 +83,13 @@ commands_after-servers : (o : Option OfCommand) (w : ClientState) → (commands_
 commands_after-servers None w = refl
 commands_after-servers (Some e) w = refl
 
-check_out_after-servers : (w : ClientState) (f : Fact) → (check_out_after w f).servers ≡ w.servers
-check_out_after-servers w (fact.Entered op host ticket) = refl
-check_out_after-servers w (fact.Lent op host conn) = refl
-check_out_after-servers w (fact.Dialled op host conn stream) = refl
-check_out_after-servers w (fact.NotLent op host why) = refl
-check_out_after-servers w (fact.CheckedIn op host conn errored) = refl
-check_out_after-servers w f = refl
+check_out_after-servers : (moment : ℕ) (w : ClientState) (f : Fact) → (check_out_after moment w f).servers ≡ w.servers
+check_out_after-servers moment w (fact.Entered op host ticket) = refl
+check_out_after-servers moment w (fact.Lent op host conn) = refl
+check_out_after-servers moment w (fact.Dialled op host conn stream) = refl
+check_out_after-servers moment w (fact.NotLent op host why) = refl
+check_out_after-servers moment w (fact.CheckedIn op host conn errored) = refl
+check_out_after-servers moment w f = refl
 
 ends_by-servers : (host : ℕ) (w v : ClientState) → (ends_by host w v).servers ≡ v.servers
 ends_by-servers host w v =
@@ -166,7 +166,7 @@ pool_after-moves : (client : Client) (host moment : ℕ) (w : ClientState) (f : 
 pool_after-moves client host moment w f a =
     let v = pools_after w moment (pool_step w f) in
     led-on client host moment w v (pool_after w moment f) (pool_step w f) (pool-moves client host moment w (pool_step w f) a)
-    (ap (λ ss. pool_at client ss host) (check_out_after-servers (conn_streams_after v f) f) ∙ conn_streams-pool client v f host)
+    (ap (λ ss. pool_at client ss host) (check_out_after-servers moment (conn_streams_after v f) f) ∙ conn_streams-pool client v f host)
 
 changed-moves : (client : Client) (host : ℕ) (p : Point) (moment : ℕ) (f : Fact) → MayStand client p moment f →
     PoolLeads client host moment p.state (pool_step p.state f) (changed_by client moment p.state f)

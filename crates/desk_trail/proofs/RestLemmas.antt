@@ -91,13 +91,13 @@ Beside-offered moment e w =
 
 -- ---- Commands change too
 
-pub Rest-check_out : (w : ClientState) (f : Fact) → Rest w (check_out_after w f)
-Rest-check_out w (fact.Entered op host ticket) = record { topology = refl; sessions = refl }
-Rest-check_out w (fact.Lent op host conn) = record { topology = refl; sessions = refl }
-Rest-check_out w (fact.Dialled op host conn stream) = record { topology = refl; sessions = refl }
-Rest-check_out w (fact.NotLent op host why) = record { topology = refl; sessions = refl }
-Rest-check_out w (fact.CheckedIn op host conn errored) = record { topology = refl; sessions = refl }
-Rest-check_out w f = Rest-refl w
+pub Rest-check_out : (moment : ℕ) (w : ClientState) (f : Fact) → Rest w (check_out_after moment w f)
+Rest-check_out moment w (fact.Entered op host ticket) = record { topology = refl; sessions = refl }
+Rest-check_out moment w (fact.Lent op host conn) = record { topology = refl; sessions = refl }
+Rest-check_out moment w (fact.Dialled op host conn stream) = record { topology = refl; sessions = refl }
+Rest-check_out moment w (fact.NotLent op host why) = record { topology = refl; sessions = refl }
+Rest-check_out moment w (fact.CheckedIn op host conn errored) = record { topology = refl; sessions = refl }
+Rest-check_out moment w f = Rest-refl w
 
 pub Rest-asked_by : (moment : ℕ) (p : Purpose) (w : ClientState) → Rest w (asked_by moment p w)
 Rest-asked_by moment (purpose.Command op) w = record { topology = refl; sessions = refl }
@@ -118,4 +118,4 @@ Beside-pool w moment f =
 pub Rest-pool : (w : ClientState) (moment : ℕ) (f : Fact) → Rest w (pool_after w moment f)
 Rest-pool w moment f =
     let v = conn_streams_after (pools_after w moment (pool_step w f)) f in
-    Rest-behind w v (check_out_after v f) (Beside-pool w moment f) (Rest-check_out v f)
+    Rest-behind w v (check_out_after moment v f) (Beside-pool w moment f) (Rest-check_out moment v f)

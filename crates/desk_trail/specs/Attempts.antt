@@ -147,6 +147,7 @@ abbrev pub end_by : AttemptEnd → CommandState → CommandState
 end_by end c = record c {
   selected = None;
   tried = c.tried ++ host_of c.selected;
+  dialled = None;
   asked = None;
   is_dirty = c.is_dirty || is_some c.asked && is_failure end;
 }

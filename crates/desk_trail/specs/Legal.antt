@@ -116,7 +116,7 @@ pub record StandsAt (client : Client) (p : Point) (t : Timed Fact) : Type 0 wher
 -- ---- The client behind an entry
 
 abbrev pub pool_after : ClientState → ℕ → Fact → ClientState
-pool_after w moment f = check_out_after (conn_streams_after (pools_after w moment (pool_step w f)) f) f
+pool_after w moment f = check_out_after moment (conn_streams_after (pools_after w moment (pool_step w f)) f) f
 
 -- A pool that is closed while its server stands in the topology is closed at the client's end.
 abbrev pub stays_at : Option ServerState → Bool

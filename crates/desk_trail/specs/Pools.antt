@@ -113,18 +113,22 @@ abbrev pub dials_by : ℕ → CheckOut → CheckOut
 dials_by conn (Waits host ticket) = Dials host ticket conn
 dials_by conn h = h
 
+-- A connection is dialled at a moment.
+abbrev pub dials_now : ℕ → ℕ → CommandState → CommandState
+dials_now moment conn c = record c { check_out = dials_by conn c.check_out; dialled = Some moment }
+
 abbrev pub has_by : ℕ → CheckOut → CheckOut
 has_by conn (Waits host ticket) = Has host ticket conn
 has_by conn (Dials host ticket n) = Has host ticket conn
 has_by conn h = h
 
-abbrev pub check_out_after : ClientState → Fact → ClientState
-check_out_after w (fact.Entered op host ticket) = with_command w op (waits_now host ticket)
-check_out_after w (fact.Lent op host conn) = with_command w op (λ c. record c { check_out = has_by conn c.check_out })
-check_out_after w (fact.Dialled op host conn stream) = with_command w op (λ c. record c { check_out = dials_by conn c.check_out })
-check_out_after w (fact.NotLent op host why) = with_command w op (λ c. record c { check_out = Nothing })
-check_out_after w (fact.CheckedIn op host conn errored) = with_command w op (λ c. record c { check_out = Nothing })
-check_out_after w f = w
+abbrev pub check_out_after : ℕ → ClientState → Fact → ClientState
+check_out_after moment w (fact.Entered op host ticket) = with_command w op (waits_now host ticket)
+check_out_after moment w (fact.Lent op host conn) = with_command w op (λ c. record c { check_out = has_by conn c.check_out })
+check_out_after moment w (fact.Dialled op host conn stream) = with_command w op (dials_now moment conn)
+check_out_after moment w (fact.NotLent op host why) = with_command w op (λ c. record c { check_out = Nothing })
+check_out_after moment w (fact.CheckedIn op host conn errored) = with_command w op (λ c. record c { check_out = Nothing })
+check_out_after moment w f = w
 
 -- ---- Streams
 

@@ -75,14 +75,15 @@ pub data CheckOut : Type 0 where
   Has : (host ticket conn : ℕ) → CheckOut
 
 -- A command on its way: what it came to and what is to be done next; its selection; the server that it chose, until that attempt
--- ended; the servers of the attempts that ended; where it is with a pool; when its request was queued, until that attempt
--- ended; its session and number, and whether the session is dirty; whether it was answered.
+-- ended; the servers of the attempts that ended; where it is with a pool; when it dialled a connection, and when its request was
+-- queued, each until that attempt ended; its session and number, and whether the session is dirty; whether it was answered.
 pub record CommandState : Type 0 where
   pub op : Op
   pub selection : Option Selection
   pub selected : Option Selected
   pub tried : List ℕ
   pub check_out : CheckOut
+  pub dialled : Option ℕ
   pub asked : Option ℕ
   pub session : Option ℕ
   pub number : Option ℤ
@@ -97,6 +98,7 @@ fresh_command command = record {
   selected = None;
   tried = [];
   check_out = Nothing;
+  dialled = None;
   asked = None;
   session = None;
   number = None;

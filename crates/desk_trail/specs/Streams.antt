@@ -1,97 +1,129 @@
 -- What a trail says of each stream: the requests that were asked on it, in order, and what became of them. It is the trail's side
 -- of what a net's history says of the stream.
-use Rattle.std.specs.Prelude.{ℕ, ℤ, ◌+◌, Bool, false, ◌&&◌, ◌==◌, List, [], ◌∷◌, ◌++◌, Option, None, Some, fold, map, slice_get, option_to_list, if◌then◌else◌}
-use Rattle.std.specs.Option.{option_map_or}
+use Rattle.std.specs.Prelude.{ℕ, ℤ, ◌+◌, Bool, false, ◌==◌, List, [], ◌∷◌, ◌++◌, Option, None, Some, fold, length, nat_le, slice_get, if◌then◌else◌}
+use Rattle.std.specs.Option.{option_and_then, option_map_or}
+use Rattle.entry_judge.specs.declared.timed.Timed.{Timed}
 use Rattle.cmd_outcome.specs.declared.reading.Reading.{Reading}
+use Rattle.hello_reply.specs.declared.server_description.ServerDescription.{ServerDescription}
 use Rattle.topo_rules.specs.declared.event.TopoEvent.{TopoEvent}
+use Rattle.topo_rules.specs.declared.event.TopoEvent.TheVariants as event
 use Rattle.write_retry.specs.declared.attempt_end.AttemptEnd.{AttemptEnd}
 use Rattle.write_retry.specs.declared.attempt_end.AttemptEnd.TheVariants as attempt
 use Rattle.write_retry.specs.declared.events.Unsent.{Unsent}
 use Rattle.write_retry.specs.declared.events.Unsent.TheVariants as unsent
 use Rattle.desk_trail.specs.declared.entry.CheckHow.{CheckHow}
 use Rattle.desk_trail.specs.declared.entry.CheckHow.TheVariants as check
-use Rattle.desk_trail.specs.declared.request.Purpose.{Purpose}
-use Rattle.desk_trail.specs.declared.request.Purpose.TheVariants as purpose
 use Rattle.desk_trail.specs.declared.request.Request.{Request}
+use Rattle.desk_trail.specs.Checks.{kept_at}
+use Rattle.desk_trail.specs.Clients.{Client, connect_limit}
 use Rattle.desk_trail.specs.Facts.{Fact}
 use Rattle.desk_trail.specs.Facts as fact
+use Rattle.desk_trail.specs.Legal.{Point, beginning, point_after}
+use Rattle.desk_trail.specs.Pools.{check_out_of}
+use Rattle.desk_trail.specs.States.{CheckOut, ClientState, CommandState, Dials, Has, number_of, stream_of}
 
 -- ---- What a trail says of a request
 
--- What it says of an answer: what a command's reply says; the event that a check's reply was offered as; that a hello was refused,
--- with its code; that a greeting was not.
+-- What it says of an answer: what a command's reply says; the description as which a check's reply was offered; that a check's
+-- hello was refused, with its code, and whether so many hosts had been named that no reply is taken in; that the greeting of a
+-- new connection was refused, with its code; that it was not.
 pub data Says : Type 0 where
   Reply : (reading : Reading) → Says
-  Hello : (event : Option TopoEvent) → Says
+  Hello : (description : ServerDescription) → Says
+  HelloRefused : (code : ℤ) (full : Bool) → Says
   Refused : (code : ℤ) → Says
   Greeted : Says
 
 -- Why there is no answer: the peer ended the stream, a call of the net failed, none came in time, or what came is none, at that
--- place. Of a greeting the trail says no more than that its connection was lost, and whether what came is no answer.
+-- place. Of a greeting the trail says no more than that its connection was lost, whether what came is no answer, and whether
+-- connectTimeoutMS was over.
 pub data Unanswered : Type 0 where
   Cut : Unanswered
   Fault : Unanswered
   Late : Unanswered
   Bad : (at : ℕ) → Unanswered
-  Lost : (bad : Bool) → Unanswered
+  Lost : (bad past : Bool) → Unanswered
 
--- Whose request it is: a command's, a check's of a server, a new connection's, or that of the connection which a command dials.
-pub data Whose : Type 0 where
-  OfCommand : (op : ℕ) → Whose
-  OfCheck : (host : ℕ) → Whose
-  OfConn : (host conn : ℕ) → Whose
-  OfDial : (op : ℕ) → Whose
+-- What became of a request: it was answered, or it was not.
+pub data Result : Type 0 where
+  Answered : (says : Says) → Result
+  Ended : (how : Unanswered) → Result
 
--- What an entry says of streams: a command dials one; a request is asked on one; the request of somebody is answered, or is not.
+-- What an entry says of a stream: a request is asked on it; the last request on it came to that; or it says nothing of one.
 pub data Mention : Type 0 where
-  Dialled : (op stream : ℕ) → Mention
-  Asked : (request : Request) → Mention
-  Answered : (whose : Whose) (says : Says) → Mention
-  Ended : (whose : Whose) (how : Unanswered) → Mention
+  Asks : (request : Request) → Mention
+  Tells : (stream : Option ℕ) (result : Result) → Mention
+  Silent : Mention
 
--- ---- Which entries say something of streams
+-- ---- Of which stream an entry speaks
 
-abbrev pub of_check : ℕ → Option TopoEvent → CheckHow → List Mention
-of_check host event (check.Reply sample) = Answered (OfCheck host) (Hello event) ∷ []
-of_check host event (check.Refused code) = Answered (OfCheck host) (Refused code) ∷ []
-of_check host event check.Cut = Ended (OfCheck host) Cut ∷ []
-of_check host event check.Fault = Ended (OfCheck host) Fault ∷ []
-of_check host event check.Late = Ended (OfCheck host) Late ∷ []
-of_check host event (check.Bad at) = Ended (OfCheck host) (Bad at) ∷ []
-of_check host event check.NoDial = []
+-- The stream of a connection of a host's pool.
+abbrev pub conn_stream_at : ClientState → ℕ → ℕ → Option ℕ
+conn_stream_at w host conn = option_and_then (λ s. stream_of s conn) (slice_get w.servers host)
 
-abbrev pub of_end : ℕ → AttemptEnd → List Mention
-of_end op (attempt.Replied reading) = Answered (OfCommand op) (Reply reading) ∷ []
-of_end op attempt.Cut = Ended (OfCommand op) Cut ∷ []
-of_end op attempt.Fault = Ended (OfCommand op) Fault ∷ []
-of_end op attempt.TimedOut = Ended (OfCommand op) Late ∷ []
-of_end op (attempt.Bad at) = Ended (OfCommand op) (Bad at) ∷ []
-of_end op (attempt.Unsent u) = []
+-- That of the connection which a command dialled, or which is lent to it.
+abbrev pub held_stream : ClientState → CheckOut → Option ℕ
+held_stream w (Dials host ticket conn) = conn_stream_at w host conn
+held_stream w (Has host ticket conn) = conn_stream_at w host conn
+held_stream w h = None
 
-abbrev pub of_not_lent : ℕ → Unsent → List Mention
-of_not_lent op (unsent.Greeting code) = Answered (OfDial op) (Refused code) ∷ []
-of_not_lent op (unsent.Dial bad) = Ended (OfDial op) (Lost bad) ∷ []
-of_not_lent op u = []
+abbrev pub stream_at : ClientState → ℕ → Option ℕ
+stream_at w op = option_and_then (held_stream w) (check_out_of w op)
 
--- What an entry says of streams, where so many events were offered ahead of it: the reply of a check is the next one. Every other
--- kind says nothing of a stream.
-abbrev pub mentions_of : List TopoEvent → ℕ → Fact → List Mention
-mentions_of events n (fact.Dialled op host conn stream) = map (λ s. Dialled op s) (option_to_list stream)
-mentions_of events n (fact.Asked place request) = Asked request ∷ []
-mentions_of events n (fact.CheckEnded host how) = of_check host (slice_get events n) how
-mentions_of events n (fact.Settled op host conn stale) = Answered (OfConn host conn) Greeted ∷ []
-mentions_of events n (fact.NotLent op host why) = of_not_lent op why
-mentions_of events n (fact.Ended op end) = of_end op end
-mentions_of events n f = []
+-- That of a server's checks, by its address.
+abbrev pub check_stream_of : ClientState → ServerDescription → Option ℕ
+check_stream_of w description = option_and_then (kept_at w) (number_of w description.host)
 
-abbrev pub offered_by : ℕ → Fact → ℕ
-offered_by n (fact.Offered place event taken) = n + 1
-offered_by n f = n
+-- ---- What an entry says of its stream
 
--- What entries say of streams, in order, from where so many events were offered.
-abbrev pub mentions_from : List TopoEvent → ℕ → List Fact → List Mention
-mentions_from events n [] = []
-mentions_from events n (f ∷ fs) = mentions_of events n f ++ mentions_from events (offered_by n f) fs
+-- From so many hosts on that were named, no reply to a check is taken in (own: so that a number is always left for a host).
+abbrev pub MOST_HOSTS : ℕ
+MOST_HOSTS = 4294000000
+
+abbrev pub of_check : ClientState → ℕ → CheckHow → Mention
+of_check w host (check.Reply sample) = Silent
+of_check w host (check.Refused code) = Tells (kept_at w host) (Answered (HelloRefused code (nat_le MOST_HOSTS (length w.servers))))
+of_check w host check.Cut = Tells (kept_at w host) (Ended Cut)
+of_check w host check.Fault = Tells (kept_at w host) (Ended Fault)
+of_check w host check.Late = Tells (kept_at w host) (Ended Late)
+of_check w host (check.Bad at) = Tells (kept_at w host) (Ended (Bad at))
+of_check w host check.NoDial = Silent
+
+-- A check's reply is told by the event that is offered of it.
+abbrev pub of_offered : ClientState → TopoEvent → Mention
+of_offered w (event.Reply description sample) = Tells (check_stream_of w description) (Answered (Hello description))
+of_offered w e = Silent
+
+abbrev pub of_end : ClientState → ℕ → AttemptEnd → Mention
+of_end w op (attempt.Replied reading) = Tells (stream_at w op) (Answered (Reply reading))
+of_end w op attempt.Cut = Tells (stream_at w op) (Ended Cut)
+of_end w op attempt.Fault = Tells (stream_at w op) (Ended Fault)
+of_end w op attempt.TimedOut = Tells (stream_at w op) (Ended Late)
+of_end w op (attempt.Bad at) = Tells (stream_at w op) (Ended (Bad at))
+of_end w op (attempt.Unsent u) = Silent
+
+-- connectTimeoutMS is over at a moment for the connection that a command dialled (URI Options, connectTimeoutMS).
+abbrev pub is_past : Client → ℕ → Option ℕ → Bool
+is_past client moment None = false
+is_past client moment (Some dialled) = nat_le (dialled + connect_limit client) moment
+
+abbrev pub dialled_at : ClientState → ℕ → Option ℕ
+dialled_at w op = option_and_then (λ (c : CommandState). c.dialled) (slice_get w.commands op)
+
+abbrev pub of_not_lent : Client → ClientState → ℕ → ℕ → Unsent → Mention
+of_not_lent client w moment op (unsent.Greeting code) = Tells (stream_at w op) (Answered (Refused code))
+of_not_lent client w moment op (unsent.Dial bad) = Tells (stream_at w op) (Ended (Lost bad (is_past client moment (dialled_at w op))))
+of_not_lent client w moment op u = Silent
+
+-- What an entry of a moment says of a stream, where the client is in that state ahead of it.
+abbrev pub mention_of : Client → ClientState → ℕ → Fact → Mention
+mention_of client w moment (fact.Asked place request) = Asks request
+mention_of client w moment (fact.CheckEnded host how) = of_check w host how
+mention_of client w moment (fact.Offered place event taken) = of_offered w event
+mention_of client w moment (fact.Settled op host conn stale) = Tells (conn_stream_at w host conn) (Answered Greeted)
+mention_of client w moment (fact.NotLent op host why) = of_not_lent client w moment op why
+mention_of client w moment (fact.Ended op end) = of_end w op end
+mention_of client w moment f = Silent
 
 -- ---- One stream
 
@@ -100,46 +132,43 @@ pub record Exchange : Type 0 where
   pub request : Request
   pub says : Says
 
--- What a trail says of a stream: the command that dialled it; its requests that were answered, in order; the one behind them; and
--- how that one ended without an answer.
+-- What a trail says of a stream: its requests that were answered, in order; the one behind them; and how that one ended without an
+-- answer.
 pub record Account : Type 0 where
-  pub dialler : Option ℕ
   pub answered : List Exchange
   pub last : Option Request
   pub how : Option Unanswered
 
 -- Of a stream of which nothing was said.
 abbrev pub no_account : Account
-no_account = record { dialler = None; answered = []; last = None; how = None }
-
--- The request is somebody's, on a stream with that dialler.
-abbrev pub is_request_of : Whose → Option ℕ → Purpose → Bool
-is_request_of (OfCommand o) dialler (purpose.Command op) = o == op
-is_request_of (OfCheck x) dialler (purpose.Check host) = x == host
-is_request_of (OfConn x n) dialler (purpose.Greeting host conn) = x == host && n == conn
-is_request_of (OfDial o) dialler (purpose.Greeting host conn) = option_map_or (λ op. o == op) dialler false
-is_request_of w dialler p = false
-
--- Somebody's request waits for its answer: it is the last, and nothing was said of it since it was asked.
-abbrev pub waits_as : Whose → Option ℕ → Option Request → Option Unanswered → Bool
-waits_as w dialler (Some r) None = is_request_of w dialler r.purpose
-waits_as w dialler r how = false
-
-abbrev pub waits : Whose → Account → Bool
-waits w a = waits_as w a.dialler a.last a.how
+no_account = record { answered = []; last = None; how = None }
 
 abbrev pub exchange_of : Says → Option Request → List Exchange
 exchange_of says None = []
 exchange_of says (Some r) = record { request = r; says = says } ∷ []
 
+-- With what became of the last request.
+abbrev pub with_result : Account → Result → Account
+with_result a (Answered says) = record a { answered = a.answered ++ exchange_of says a.last; last = None }
+with_result a (Ended how) = record a { how = Some how }
+
 -- With one more mention, where it is of this stream.
 abbrev pub with_mention : ℕ → Account → Mention → Account
-with_mention stream a (Dialled op s) = if s == stream then record a { dialler = Some op } else a
-with_mention stream a (Asked r) = if r.stream == stream then record a { last = Some r; how = None } else a
-with_mention stream a (Answered w says) =
-    if waits w a then record a { answered = a.answered ++ exchange_of says a.last; last = None } else a
-with_mention stream a (Ended w how) = if waits w a then record a { how = Some how } else a
+with_mention stream a (Asks r) = if r.stream == stream then record a { last = Some r; how = None } else a
+with_mention stream a (Tells s result) = if option_map_or (λ n. n == stream) s false then with_result a result else a
+with_mention stream a Silent = a
+
+-- Where entries lead, and what they say of a stream.
+pub record Told : Type 0 where
+  pub point : Point
+  pub account : Account
+
+abbrev pub with_fact : Client → ℕ → Told → Timed Fact → Told
+with_fact client stream t f = record {
+  point = point_after client t.point f;
+  account = with_mention stream t.account (mention_of client t.point.state f.at f.what);
+}
 
 -- What entries say of a stream, from the beginning of a trail on.
-abbrev pub account : ℕ → List TopoEvent → List Fact → Account
-account stream events fs = fold (with_mention stream) no_account (mentions_from events 0 fs)
+unfoldable pub account : Client → ℕ → List (Timed Fact) → Account
+account client stream facts = (fold (with_fact client stream) (record { point = beginning client; account = no_account }) facts).account

@@ -1,5 +1,6 @@
 //! Farewells are asked on the connections of servers, one after another (Driver Sessions, endSessions).
-ghost use Rattle.std.specs.Prelude.{◌≡◌, ◌≤◌, ◌<◌, ◌+◌, ℕ, true, false, Some, length, nat_eq, slice_get, IfNone, IfOk, IfSome, OnOk};
+ghost use Rattle.std.specs.Prelude.{◌≡◌, ◌≤◌, ◌<◌, ◌+◌, ℕ, true, false, None, Some, length, nat_eq, slice_get, IfNone, IfOk, IfSome, OnOk};
+ghost use Rattle.wired_trail.specs.Hearing.{told_of};
 ghost use Rattle.std.specs.List.{list_any};
 ghost use Rattle.end_sessions.specs.Carriers.{AreReadable, Carries, IsAsked, IsToAsk, IsToAskAt};
 ghost use Rattle.end_sessions.specs.Farewells.{IsFreeOn, MayCarry};
@@ -73,6 +74,18 @@ fn free_stream<N: Net>(
     Some(stream)
 }
 
+/// Each request on a stream that is to carry a farewell was answered.
+fn check_free<N: Net>(wired: &WiredTrail<N>, stream: u64) -> Result<(), Memory>
+    ensures free { OnOk result (N.tells → (told_of wired.now.trail stream).last ≡ None) }
+{
+    if wired.is_free(stream) {
+        Ok(())
+    } else {
+        // (cannot be: a connection is available again only where its last request was answered)
+        Err(AllocError)
+    }
+}
+
 /// Asks the next farewell on a stream, and sends what the net takes of it now.
 fn ask_on<N: Net>(
     alloc: Global,
@@ -95,6 +108,7 @@ fn ask_on<N: Net>(
     let place = wired.requests().len();
     let made = farewell_request(alloc, ids, stream, place)?;
     wired.reserve(room_for(asking.closings)?)?;
+    check_free(wired, stream)?;
     wired.ask(asking.moment, made.request, made.bytes);
     carriers.push_reserved(stream);
     wired.push(stream);

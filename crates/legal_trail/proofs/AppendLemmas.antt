@@ -17,7 +17,7 @@ use Rattle.desk_trail.specs.declared.room.Room.{Room}
 use Rattle.desk_trail.specs.declared.step.Step.{Step}
 use Rattle.desk_trail.specs.Clients.{Client}
 use Rattle.desk_trail.specs.Facts.{Fact, Lists, fact_of, facts_of, timed_fact}
-use Rattle.desk_trail.specs.Legal.{AreLegal, IsLegal, Point, StandsAt, beginning, point_after, point_behind}
+use Rattle.desk_trail.specs.Legal.{AreLegal, IsLegal, StandsAt, beginning, point_after, point_behind}
 use Rattle.desk_trail.specs.Orders.{Extends}
 use Rattle.desk_trail.specs.Written.{IsUsed, Written, step_of, with_entry}
 use Rattle.legal_trail.specs.Recorded.{Adds, recorded}
@@ -127,6 +127,10 @@ Adds-written client used old new lists moment e f longer l s room h = record {
   lists_now = l;
   steps_now = s;
   room_used = room;
+  point_was = refl;
+  told_now =
+      ap (λ (x : Lists). facts_of x new.steps) l ∙ ap (λ (xs : List Step). facts_of lists xs) s ∙ facts_of-with lists old.steps moment e f h
+      ∙ ap (λ (ts : List (Timed Fact)). ts ++ record { at = moment; what = f } ∷ []) longer.same;
   point_now =
       ap (λ (x : Lists). point_behind client (facts_of x new.steps)) l ∙ ap (λ (xs : List Step). point_behind client (facts_of lists xs)) s
       ∙ point_behind-with client lists old.steps moment e f h

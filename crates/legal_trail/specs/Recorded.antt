@@ -1,5 +1,6 @@
 -- What a client did so far, and where it leads.
-use Rattle.std.specs.Prelude.{◌≡◌, ℕ, List, []}
+use Rattle.std.specs.Prelude.{◌≡◌, ℕ, List, [], ◌∷◌, ◌++◌}
+use Rattle.entry_judge.specs.declared.timed.Timed.{Timed}
 use Rattle.desk_trail.specs.declared.entry.Entry.{Entry}
 use Rattle.desk_trail.specs.declared.room.Room.{Room}
 use Rattle.desk_trail.specs.declared.step.Step.{Step}
@@ -27,11 +28,17 @@ recorded client written = record {
   point = point_behind client (facts_of written.lists written.steps);
 }
 
--- An entry of that moment, which tells that fact, came behind the others; the lists are those behind it; and the point is the one
--- to which the fact leads.
+-- What its entries tell.
+abbrev pub told_in : Recorded → List (Timed Fact)
+told_in r = facts_of r.lists r.steps
+
+-- An entry of that moment, which tells that fact, came behind the others, which lead to the old point; the lists are those behind
+-- it; and the point is the one to which the fact leads.
 pub record Adds (used : Room) (lists : Lists) (moment : ℕ) (entry : Entry) (told : Fact) (old new : Recorded) : Type 0 where
   pub same_client : new.client ≡ old.client
   pub lists_now : new.lists ≡ lists
   pub steps_now : new.steps ≡ with_entry old.steps moment entry
   pub room_used : IsUsed used old.room new.room
+  pub point_was : old.point ≡ point_behind old.client (told_in old)
   pub point_now : new.point ≡ point_after old.client old.point (record { at = moment; what = told })
+  pub told_now : told_in new ≡ told_in old ++ record { at = moment; what = told } ∷ []

@@ -11,6 +11,8 @@
 //! ran out. For 2 to 6 it prints one line on standard error.
 #![tactic(auto)]
 
+#[cfg(test)]
+mod loopback;
 mod machine_clock;
 mod socket_net;
 mod socket_watch;

@@ -37,6 +37,10 @@ MustWait p moment number =
     (t : Ticket) × (ticket_of number p.waiting ≡ Some t) × (is_closed p.state ≡ false) × (is_cleared p.state p.generation t.generation ≡ false)
     × (can_take p moment t ≡ false) × (is_late p.rules t.entered moment ≡ false)
 
+-- Until when the ticket of a number waits at most: the rules' limit behind its entry (CMAP, waitQueueTimeoutMS).
+abbrev pub IsWaitLimit : Pool → (number until : ℕ) → Type 0
+IsWaitLimit p number until = (t : Ticket) × (ticket_of number p.waiting ≡ Some t) × (until ≡ t.entered + p.rules.wait_micros)
+
 -- An answer to a ticket is an entry that may stand, by which the pool goes on; it waits where no other is due, and then
 -- the pool stays as it is (CMAP, Checking Out a Connection).
 abbrev pub Answers : Pool → ℕ → ℕ → Take → Pool → Type 0

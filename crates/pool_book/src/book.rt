@@ -1,6 +1,7 @@
-ghost use Rattle.std.specs.Prelude.{◌≡◌, ℕ, ◌+◌, ◌-◌, ◌^◌, ◌<◌, ◌≤◌, true, false, is_some};
+ghost use Rattle.std.specs.Prelude.{◌≡◌, ℕ, ◌+◌, ◌-◌, ◌^◌, ◌<◌, ◌≤◌, true, false, IfNone, IfSome, is_some};
 ghost use Rattle.pool_book.specs.Pool.{Pool, fresh_pool, ticket_of, held_of, is_closed, is_paused, is_perished};
 ghost use Rattle.pool_book.specs.Entries as entry;
+ghost use Rattle.pool_book.specs.Answers.{IsWaitLimit};
 ghost use Rattle.pool_book.specs.Judge.{Goes};
 
 use crate::available_list::AvailableList;
@@ -127,6 +128,16 @@ impl PoolBook {
         ensures { result ≡ is_some (ticket_of ticket.now.number self.now.waiting) }
     {
         self.line.find(ticket.number).is_some()
+    }
+
+    /// Until when the ticket of a number waits at most, in microseconds: the rules' limit behind its entry (CMAP,
+    /// waitQueueTimeoutMS). None where no ticket of that number waits, or past u64's greatest number.
+    pub fn wait_limit(&self, number: u64) -> Option<u64>
+        ensures until { IfSome result (λ until. IsWaitLimit self.now number until) }
+        ensures none { IfNone result ((until : ℕ) → IsWaitLimit self.now number until → 2 ^ 64 ≤ until) }
+    {
+        let ticket = self.line.find(number)?;
+        ticket.entered.checked_add(self.rules.wait_micros)
     }
 
     /// Whether the connection is pending.

@@ -1,6 +1,7 @@
-ghost use Rattle.std.specs.Prelude.{◌≡◌, ◌≤◌, ◌^◌, ◌&&◌, ◌==◌, [], find, not, false, is_some};
+ghost use Rattle.std.specs.Prelude.{◌≡◌, ◌≤◌, ◌^◌, ◌&&◌, ◌==◌, ℕ, [], find, not, false, IfNone, IfSome, is_some};
 ghost use Rattle.std.specs.Option.{option_map};
 ghost use Rattle.host_name.specs.Addresses.{is_same_address};
+ghost use Rattle.pool_book.specs.Answers.{IsWaitLimit};
 ghost use Rattle.pool_book.specs.Pool.{held_of, is_closed, is_paused, is_perished, ticket_of};
 ghost use Rattle.watch_step.specs.Checks.{IsInRange};
 ghost use Rattle.desk_trail.specs.Clients.{Client, beat, pool_rules};
@@ -142,6 +143,15 @@ impl Server {
         ensures waiting { result ≡ is_some (ticket_of ticket.now.number self.now.pool.state.waiting) }
     {
         self.pool.is_waiting(ticket)
+    }
+
+    /// Until when the ticket of a number waits at most in the line of its pool, in microseconds (CMAP, waitQueueTimeoutMS). None
+    /// where no ticket of that number waits, or past u64's greatest number.
+    pub fn wait_limit(&self, number: u64) -> Option<u64>
+        ensures until { IfSome result (λ until. IsWaitLimit self.now.pool.state number until) }
+        ensures none { IfNone result ((until : ℕ) → IsWaitLimit self.now.pool.state number until → 2 ^ 64 ≤ until) }
+    {
+        self.pool.wait_limit(number)
     }
 
     /// Whether the connection was dialled and is not established yet.

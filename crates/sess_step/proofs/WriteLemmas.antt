@@ -12,7 +12,7 @@ use Rattle.desk_trail.specs.declared.entry.Entry.TheVariants as entry
 use Rattle.desk_trail.specs.declared.room.Room.{Room}
 use Rattle.legal_trail.specs.Recorded.{Adds, Recorded}
 use Rattle.wired_trail.specs.Lines.{Lines as StreamLines}
-use Rattle.wired_trail.specs.Standing.{UsesGiven}
+use Rattle.wired_trail.specs.Hearing.{IsPlain}
 use Rattle.sess_step.specs.Moves.{IsNamed, lease_lists, lease_room}
 use Rattle.sess_step.specs.declared.command_at.CommandAt.{CommandAt}
 
@@ -57,11 +57,11 @@ adds-kept old new at place lsid true e adds = absurd (cc)
 adds-kept old new at place lsid false e adds = adds
 
 -- it begins to use no stream
-uses-told : (lines : StreamLines) (op place : ℕ) (o : Option Lsid) (told : Fact) → option_map (λ id. fact.Leased op place id false) o ≡ Some told → UsesGiven lines told
+uses-told : (lines : StreamLines) (op place : ℕ) (o : Option Lsid) (told : Fact) → option_map (λ id. fact.Leased op place id false) o ≡ Some told → IsPlain lines told
 uses-told lines op place None told e = absurd (cc)
 uses-told lines op place (Some id) told e =
     let one : fact.Leased op place id false ≡ told = cc in
-    subst (UsesGiven lines) one tt
+    subst (IsPlain lines) one tt
 
-pub uses-kept : (lines : StreamLines) (l : Lists) (op place : ℕ) (told : Fact) → fact_of l (entry.Leased op place false) ≡ Some told → UsesGiven lines told
+pub uses-kept : (lines : StreamLines) (l : Lists) (op place : ℕ) (told : Fact) → fact_of l (entry.Leased op place false) ≡ Some told → IsPlain lines told
 uses-kept lines l op place told e = uses-told lines op place (slice_get l.sessions place) told e

@@ -16,7 +16,7 @@ use Rattle.desk_trail.specs.Facts.{Fact}
 use Rattle.desk_trail.specs.Facts as fact
 use Rattle.desk_trail.specs.Legal.{changed_by, ends_by, pool_after, stays_at}
 use Rattle.desk_trail.specs.Looks.{look_asks, look_by}
-use Rattle.desk_trail.specs.Pools.{OfHost, conn_streams_after, dials_by, has_by, pool_step, pools_after, waits_now}
+use Rattle.desk_trail.specs.Pools.{OfHost, conn_streams_after, dials_now, has_by, pool_step, pools_after, waits_now}
 use Rattle.desk_trail.specs.Requests.{farewell_by}
 use Rattle.desk_trail.specs.States.{ClientState, CommandState, Nothing, changed, changed_at, number_of}
 use Rattle.desk_trail.specs.Topologies.{asked_at, asks_of, verdict_on, with_ask}
@@ -120,7 +120,7 @@ abbrev pub change_of : ℕ → ClientState → Fact → Change
 change_of moment w (fact.Looked op a b kept picked) = Of op (look_by w moment picked)
 change_of moment w (fact.Entered op host ticket) = Of op (waits_now host ticket)
 change_of moment w (fact.Lent op host conn) = Of op (λ c. record c { check_out = has_by conn c.check_out })
-change_of moment w (fact.Dialled op host conn stream) = Of op (λ c. record c { check_out = dials_by conn c.check_out })
+change_of moment w (fact.Dialled op host conn stream) = Of op (dials_now moment conn)
 change_of moment w (fact.NotLent op host why) = Of op (λ c. record c { check_out = Nothing })
 change_of moment w (fact.CheckedIn op host conn errored) = Of op (λ c. record c { check_out = Nothing })
 change_of moment w (fact.Leased op place lsid fresh) = Of op (λ c. record c { session = Some place })
@@ -169,7 +169,7 @@ changes client moment w (fact.Entered op host ticket) = at-changed op (waits_now
 changes client moment w (fact.Lent op host conn) =
     at-changed op (λ c. record c { check_out = has_by conn c.check_out }) w.commands _ (ahead-commands w moment (fact.Lent op host conn))
 changes client moment w (fact.Dialled op host conn stream) =
-    at-changed op (λ c. record c { check_out = dials_by conn c.check_out }) w.commands _ (ahead-commands w moment (fact.Dialled op host conn stream))
+    at-changed op (dials_now moment conn) w.commands _ (ahead-commands w moment (fact.Dialled op host conn stream))
 changes client moment w (fact.Settled op host conn stale) = ahead-commands w moment (fact.Settled op host conn stale)
 changes client moment w (fact.NotLent op host why) =
     at-changed op (λ c. record c { check_out = Nothing }) w.commands _ (ahead-commands w moment (fact.NotLent op host why))

@@ -27,13 +27,13 @@ AsksNone w = w.is_ending ≡ false → w.farewells ≡ []
 
 -- ---- Behind each kind of entry
 
-check_out-none : (w : ClientState) (f : Fact) → AsksNone w → AsksNone (check_out_after w f)
-check_out-none w (fact.Entered op host ticket) h = h
-check_out-none w (fact.Lent op host conn) h = h
-check_out-none w (fact.Dialled op host conn stream) h = h
-check_out-none w (fact.NotLent op host why) h = h
-check_out-none w (fact.CheckedIn op host conn errored) h = h
-check_out-none w f h = h
+check_out-none : (moment : ℕ) (w : ClientState) (f : Fact) → AsksNone w → AsksNone (check_out_after moment w f)
+check_out-none moment w (fact.Entered op host ticket) h = h
+check_out-none moment w (fact.Lent op host conn) h = h
+check_out-none moment w (fact.Dialled op host conn stream) h = h
+check_out-none moment w (fact.NotLent op host why) h = h
+check_out-none moment w (fact.CheckedIn op host conn errored) h = h
+check_out-none moment w f h = h
 
 streams-none : (w : ClientState) (f : Fact) → AsksNone w → AsksNone (conn_streams_after w f)
 streams-none w (fact.Dialled op host conn (Some stream)) h = h
@@ -47,7 +47,7 @@ pools-none w moment (Some e) h = h
 pool-none : (w : ClientState) (moment : ℕ) (f : Fact) → AsksNone w → AsksNone (pool_after w moment f)
 pool-none w moment f h =
     let v = pools_after w moment (pool_step w f) in
-    check_out-none (conn_streams_after v f) f (streams-none v f (pools-none w moment (pool_step w f) h))
+    check_out-none moment (conn_streams_after v f) f (streams-none v f (pools-none w moment (pool_step w f) h))
 
 ends-none : (host : ℕ) (w v : ClientState) → AsksNone v → AsksNone (ends_by host w v)
 ends-none host w v h = by (stays_at (slice_get w.servers host))

@@ -40,13 +40,13 @@ same-servers w v y e = ap (λ ss. standing_of (slice_get ss y)) e
 
 -- ---- Entries of pools
 
-check_out-servers : (w : ClientState) (f : Fact) → (check_out_after w f).servers ≡ w.servers
-check_out-servers w (fact.Entered op host ticket) = refl
-check_out-servers w (fact.Lent op host conn) = refl
-check_out-servers w (fact.Dialled op host conn stream) = refl
-check_out-servers w (fact.NotLent op host why) = refl
-check_out-servers w (fact.CheckedIn op host conn errored) = refl
-check_out-servers w f = refl
+check_out-servers : (moment : ℕ) (w : ClientState) (f : Fact) → (check_out_after moment w f).servers ≡ w.servers
+check_out-servers moment w (fact.Entered op host ticket) = refl
+check_out-servers moment w (fact.Lent op host conn) = refl
+check_out-servers moment w (fact.Dialled op host conn stream) = refl
+check_out-servers moment w (fact.NotLent op host why) = refl
+check_out-servers moment w (fact.CheckedIn op host conn errored) = refl
+check_out-servers moment w f = refl
 
 streams-kept : (w : ClientState) (f : Fact) (y : ℕ) → standing_at (conn_streams_after w f) y ≡ standing_at w y
 streams-kept w (fact.Dialled op host conn (Some stream)) y =
@@ -62,7 +62,7 @@ pool-kept : (w : ClientState) (moment : ℕ) (f : Fact) (y : ℕ) → standing_a
 pool-kept w moment f y =
     let v = pools_after w moment (pool_step w f) in
     let u = conn_streams_after v f in
-    same-servers u (check_out_after u f) y (check_out-servers u f) ∙ streams-kept v f y ∙ pools-kept w moment (pool_step w f) y
+    same-servers u (check_out_after moment u f) y (check_out-servers moment u f) ∙ streams-kept v f y ∙ pools-kept w moment (pool_step w f) y
 
 ends-kept : (host : ℕ) (w v : ClientState) (y : ℕ) → standing_at (ends_by host w v) y ≡ standing_at v y
 ends-kept host w v y = by (stays_at (slice_get w.servers host))
@@ -159,13 +159,13 @@ plain-kept client moment w f y q =
 
 -- ---- They leave the topology as it is
 
-check_out-topology : (w : ClientState) (f : Fact) → (check_out_after w f).topology ≡ w.topology
-check_out-topology w (fact.Entered op host ticket) = refl
-check_out-topology w (fact.Lent op host conn) = refl
-check_out-topology w (fact.Dialled op host conn stream) = refl
-check_out-topology w (fact.NotLent op host why) = refl
-check_out-topology w (fact.CheckedIn op host conn errored) = refl
-check_out-topology w f = refl
+check_out-topology : (moment : ℕ) (w : ClientState) (f : Fact) → (check_out_after moment w f).topology ≡ w.topology
+check_out-topology moment w (fact.Entered op host ticket) = refl
+check_out-topology moment w (fact.Lent op host conn) = refl
+check_out-topology moment w (fact.Dialled op host conn stream) = refl
+check_out-topology moment w (fact.NotLent op host why) = refl
+check_out-topology moment w (fact.CheckedIn op host conn errored) = refl
+check_out-topology moment w f = refl
 
 streams-topology : (w : ClientState) (f : Fact) → (conn_streams_after w f).topology ≡ w.topology
 streams-topology w (fact.Dialled op host conn (Some stream)) = refl
@@ -179,7 +179,7 @@ pools-topology w moment (Some e) = refl
 pool-topology : (w : ClientState) (moment : ℕ) (f : Fact) → (pool_after w moment f).topology ≡ w.topology
 pool-topology w moment f =
     let v = pools_after w moment (pool_step w f) in
-    check_out-topology (conn_streams_after v f) f ∙ streams-topology v f ∙ pools-topology w moment (pool_step w f)
+    check_out-topology moment (conn_streams_after v f) f ∙ streams-topology v f ∙ pools-topology w moment (pool_step w f)
 
 ends-topology : (host : ℕ) (w v : ClientState) → (ends_by host w v).topology ≡ v.topology
 ends-topology host w v = by (stays_at (slice_get w.servers host))

@@ -53,13 +53,13 @@ is_aside (fact.Drew op number) = false
 is_aside (fact.Returned op dirty kept) = false
 is_aside f = true
 
-check_out-sessions : (w : ClientState) (f : Fact) → (check_out_after w f).sessions ≡ w.sessions
-check_out-sessions w (fact.Entered op host ticket) = refl
-check_out-sessions w (fact.Lent op host conn) = refl
-check_out-sessions w (fact.Dialled op host conn stream) = refl
-check_out-sessions w (fact.NotLent op host why) = refl
-check_out-sessions w (fact.CheckedIn op host conn errored) = refl
-check_out-sessions w f = refl
+check_out-sessions : (moment : ℕ) (w : ClientState) (f : Fact) → (check_out_after moment w f).sessions ≡ w.sessions
+check_out-sessions moment w (fact.Entered op host ticket) = refl
+check_out-sessions moment w (fact.Lent op host conn) = refl
+check_out-sessions moment w (fact.Dialled op host conn stream) = refl
+check_out-sessions moment w (fact.NotLent op host why) = refl
+check_out-sessions moment w (fact.CheckedIn op host conn errored) = refl
+check_out-sessions moment w f = refl
 
 streams-sessions : (w : ClientState) (f : Fact) → (conn_streams_after w f).sessions ≡ w.sessions
 streams-sessions w (fact.Dialled op host conn (Some stream)) = refl
@@ -73,7 +73,7 @@ pools-sessions w moment (Some e) = refl
 pool-sessions : (w : ClientState) (moment : ℕ) (f : Fact) → (pool_after w moment f).sessions ≡ w.sessions
 pool-sessions w moment f =
     let v = pools_after w moment (pool_step w f) in
-    check_out-sessions (conn_streams_after v f) f ∙ streams-sessions v f ∙ pools-sessions w moment (pool_step w f)
+    check_out-sessions moment (conn_streams_after v f) f ∙ streams-sessions v f ∙ pools-sessions w moment (pool_step w f)
 
 ends-sessions : (host : ℕ) (w v : ClientState) → (ends_by host w v).sessions ≡ v.sessions
 ends-sessions host w v = by (stays_at (slice_get w.servers host))

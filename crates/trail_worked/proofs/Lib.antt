@@ -11,6 +11,7 @@ mod LeasedAgainGood
 mod FailoverGood
 mod PoolClearedGood
 mod StaleGreetingGood
+mod HistoryLemmas
 mod HostDroppedGood
 mod NoServerGood
 mod NoServerBehindCutGood

@@ -5,6 +5,7 @@ pub mod LeasedAgain
 pub mod Failover
 pub mod PoolCleared
 pub mod StaleGreeting
+pub mod Histories
 pub mod HostDropped
 pub mod NoServer
 pub mod DialFailed

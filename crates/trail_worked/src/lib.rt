@@ -9,10 +9,12 @@
 //!   (`HostDropped`), a dial that fails (`DialFailed`).
 //! - [`checks`]: selections that fail at their deadline (`NoServer`), checks that end late (`CheckLate`).
 //! - [`ending`]: the end of a client (`ClientEnds`).
+//! - [`histories`]: what nets tell, with what a trail says of their streams (`Histories`): each that fits, with neighbours that do not.
 #![tactic(auto)]
 
 pub mod checks;
 pub mod commands;
 pub mod ending;
+pub mod histories;
 pub mod pools;
 pub mod writing;

@@ -1,2 +1,9 @@
-mod StreamLemmas
+mod CallLemmas
+mod FitLemmas
+mod FreeLemmas
+pub mod HeardLemmas
+mod KeptLemmas
 mod LineLemmas
+mod StreamLemmas
+mod ToldLemmas
+mod TurnLemmas

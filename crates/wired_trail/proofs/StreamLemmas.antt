@@ -31,13 +31,13 @@ new_streams w f = []
 
 -- ---- What an entry leaves as it is
 
-check_out-same : (w : ClientState) (f : Fact) → (check_out_after w f).streams ≡ w.streams
-check_out-same w (fact.Entered op host ticket) = refl
-check_out-same w (fact.Lent op host conn) = refl
-check_out-same w (fact.Dialled op host conn stream) = refl
-check_out-same w (fact.NotLent op host why) = refl
-check_out-same w (fact.CheckedIn op host conn errored) = refl
-check_out-same w f = refl
+check_out-same : (moment : ℕ) (w : ClientState) (f : Fact) → (check_out_after moment w f).streams ≡ w.streams
+check_out-same moment w (fact.Entered op host ticket) = refl
+check_out-same moment w (fact.Lent op host conn) = refl
+check_out-same moment w (fact.Dialled op host conn stream) = refl
+check_out-same moment w (fact.NotLent op host why) = refl
+check_out-same moment w (fact.CheckedIn op host conn errored) = refl
+check_out-same moment w f = refl
 
 pools-same : (w : ClientState) (moment : ℕ) (o : Option OfHost) → (pools_after w moment o).streams ≡ w.streams
 pools-same w moment None = refl
@@ -97,7 +97,7 @@ conn_streams-adds w v f op host conn (Some stream) e = ap (λ ss. stream ∷ ss)
 pool-same : (w : ClientState) (moment : ℕ) (f : Fact) → (conn_streams_after (pools_after w moment (pool_step w f)) f).streams ≡ (pools_after w moment (pool_step w f)).streams →
     (pool_after w moment f).streams ≡ w.streams
 pool-same w moment f same =
-    check_out-same (conn_streams_after (pools_after w moment (pool_step w f)) f) f ∙ same ∙ pools-same w moment (pool_step w f)
+    check_out-same moment (conn_streams_after (pools_after w moment (pool_step w f)) f) f ∙ same ∙ pools-same w moment (pool_step w f)
 
 changed-adds : (client : Client) (moment : ℕ) (w : ClientState) (f : Fact) → (changed_by client moment w f).streams ≡ new_streams w f ++ w.streams
 changed-adds client moment w (fact.Named x address) = refl
@@ -115,7 +115,7 @@ changed-adds client moment w (fact.Entered k x ticket) = pool-same w moment (fac
 changed-adds client moment w (fact.Lent k x conn) = pool-same w moment (fact.Lent k x conn) refl
 changed-adds client moment w (fact.Dialled k x conn stream) =
     let f = fact.Dialled k x conn stream in
-    check_out-same (conn_streams_after (pools_after w moment (pool_step w f)) f) f
+    check_out-same moment (conn_streams_after (pools_after w moment (pool_step w f)) f) f
     ∙ conn_streams-adds w (pools_after w moment (pool_step w f)) f k x conn stream (pools-same w moment (pool_step w f))
 changed-adds client moment w (fact.Settled k x conn stale) = pool-same w moment (fact.Settled k x conn stale) refl
 changed-adds client moment w (fact.NotLent k x why) = pool-same w moment (fact.NotLent k x why) refl

@@ -20,11 +20,11 @@ pub record IsLine (live : ℕ → Type 0) (stream : ℕ) (line : Line) : Type 0 
 
 -- Each line is; and each stream that the trail dialled has a number below the net's mark (own: the invariant, by which a stream
 -- that is dialled is a new one of the trail too).
-pub record IsWired (live : ℕ → Type 0) (next : ℕ) (lines : Lines) (streams : List ℕ) : Type 0 where
+pub record HasLines (live : ℕ → Type 0) (next : ℕ) (lines : Lines) (streams : List ℕ) : Type 0 where
   pub each : (stream : ℕ) (line : Line) → line_at lines stream ≡ Some line → IsLine live stream line
   pub given : All (λ stream. stream < next) streams
 
--- An entry that begins to use a stream uses one that is there: that of a check, and that of a new connection.
+-- The streams that an entry begins to use are there: that of a check, and that of a new connection.
 abbrev pub UsesGiven : Lines → Fact → Type 0
 UsesGiven lines (fact.CheckBegan host stream) = IsThere lines stream
 UsesGiven lines (fact.Dialled op host conn (Some stream)) = IsThere lines stream

@@ -11,6 +11,8 @@
 
 mod finished;
 mod lines;
+mod pending;
+mod pendings;
 mod stream_use;
 mod trail;
 

@@ -1,26 +1,35 @@
-ghost use Rattle.std.specs.Prelude.{◌≡◌, ◌≤◌, ◌<◌, ◌^◌, ℕ, true, false, None, Some, [], ◌∷◌, ◌++◌, length, OnOk, IfSome};
+ghost use Rattle.std.specs.Prelude.{◌≡◌, ◌≢◌, ◌≤◌, ◌<◌, ◌^◌, ℕ, true, false, None, Some, [], ◌∷◌, ◌++◌, length, OnErr, OnOk, IfSome};
 ghost use Rattle.std.specs.Option.{option_map};
 ghost use Rattle.net_link.specs.Calls.{IfStream};
 ghost use Rattle.net_link.specs.Causes.{HasCause};
 ghost use Rattle.desk_trail.specs.declared.entry.Entry.TheVariants as entry_of;
 ghost use Rattle.desk_trail.specs.Checks.{IsNew};
-ghost use Rattle.desk_trail.specs.Facts.{Fact, fact_of, facts_of};
+ghost use Rattle.desk_trail.specs.Facts.{Fact, Lists, fact_of, facts_of};
 ghost use Rattle.desk_trail.specs.Facts as fact;
-ghost use Rattle.desk_trail.specs.Legal.{IsLegal, StandsAt, beginning, point_behind};
+ghost use Rattle.desk_trail.specs.Legal.{IsLegal, StandsAt, beginning, point_behind, tells_reply};
+ghost use Rattle.desk_trail.specs.Streams.{of_offered};
 ghost use Rattle.desk_trail.specs.Written.{IsAtLeast, a_name, a_request, a_session, an_entry, an_event, lists_of, no_lists};
 ghost use Rattle.desk_wire.specs.Exchange.{MustWait};
 ghost use Rattle.desk_wire.specs.Pull.{pull_shuts};
+ghost use Rattle.desk_wire.specs.Push.{push_shuts};
 ghost use Rattle.legal_trail.specs.Recorded.{Adds};
-ghost use Rattle.wired_trail.specs.Lines.{BeginsBy, IsIdle, IsThere, KeepsOthers, line_at, with_unsent};
-ghost use Rattle.wired_trail.specs.Standing.{UsesGiven};
+ghost use Rattle.net_link.specs.Prefix.{IsPrefixOf};
+ghost use Rattle.net_link.specs.Seen.{seen};
+ghost use Rattle.wired_trail.specs.Hearing.{HasUntoldDial, Heard, IsPlain, OffersOf, SpeaksOf, TellsHeard, WasHeard, told_of};
+ghost use Rattle.wired_trail.specs.Inside.{KeepsPending, pending_at, stream_offered};
+ghost use Rattle.wired_trail.specs.Lines.{Begins, BeginsBy, IsIdle, IsThere, KeepsOthers, line_at, with_unsent};
+ghost use Rattle.wired_trail.specs.declared.pending.Pending.TheVariants as pending;
 ghost use Rattle.wired_trail.specs.Turns.{Sends, Turns};
+ghost use Rattle.wired_trail.specs.Wired.{HasCome, IsWired, says_no_dial};
 
 use crate::lines::Lines;
+use crate::pending::Pending;
+use crate::pendings::Pendings;
 use crate::{Finished, Memory, StreamUse};
 use bson_doc::{Bytes, Lsid, Rows};
 use cmd_build::Command;
 use conn_uri::Settings;
-use desk_trail::{Entry, OfferedHow, Request, Room, Step};
+use desk_trail::{CheckHow, Entry, OfferedHow, Request, Room, Step};
 use desk_wire::{Pulled, Pushed};
 use host_name::Host;
 use legal_trail::LegalTrail;
@@ -28,6 +37,7 @@ use net_link::{Dialed, Net};
 use std::alloc::Global;
 use std::marker::Model;
 use topo_rules::TopoEvent;
+use write_retry::{AttemptEnd, Unsent};
 
 /// A client's trail while it is written, with the net that the client talks over and the streams that are in use.
 #[derive(Drop)]
@@ -35,10 +45,12 @@ pub struct WiredTrail<N: Net> {
     trail: LegalTrail,
     net: N,
     lines: Lines,
+    pendings: Pendings,
 }
 
 impl<N: Net> Model for WiredTrail<N> {
-    ghost use Rattle.wired_trail.specs.Standing.{IsWired, Standing};
+    ghost use Rattle.wired_trail.specs.Inside.{IsKept};
+    ghost use Rattle.wired_trail.specs.Standing.{Standing};
     ghost use Rattle.bson_doc.specs.contracts.value.Value as values;
     ghost use Rattle.topo_rules.specs.contracts.topology.Topology as topologies;
     ghost use Rattle.std.specs.Coded.{codes};
@@ -49,11 +61,12 @@ impl<N: Net> Model for WiredTrail<N> {
 
     ghost view = { λ w. record { net = w.net; lines = w.lines; trail = w.trail } };
 
-    ghost invariant = { λ w. IsWired (N.is_open w.net) (N.next w.net) w.lines w.trail.point.state.streams };
+    ghost invariant = { λ w. IsKept N.tells (N.is_open w.net) (N.next w.net) (N.history w.net) w.lines w.pendings w.trail };
 }
 
 impl<N: Net> WiredTrail<N> {
-    /// The trail of a client that did nothing yet, over a net of which no stream is in use. It takes no memory.
+    /// The trail of a client that did nothing yet, over a net of which no stream is in use, and which, where it tells, told nothing
+    /// yet. It takes no memory.
     pub fn new(
         alloc: Global,
         settings: Settings,
@@ -61,6 +74,7 @@ impl<N: Net> WiredTrail<N> {
         began: u64,
         net: N,
     ) -> WiredTrail<N>
+        requires fresh { N.tells → N.history net ≡ [] }
         ensures net { result.net ≡ net }
         ensures lines { result.lines ≡ [] }
         ensures client { result.trail.client ≡ record { settings = settings; commands = commands; began = began } }
@@ -72,6 +86,7 @@ impl<N: Net> WiredTrail<N> {
             trail: LegalTrail::new(alloc, settings, commands, began),
             net,
             lines: Lines::new(alloc),
+            pendings: Pendings::new(alloc),
         }
     }
 
@@ -117,9 +132,10 @@ impl<N: Net> WiredTrail<N> {
         self.trail.requests()
     }
 
-    /// The entries. They are legal, and lead to the point.
+    /// The entries. They are legal, lead to the point, and are what the net told, where that tells.
     pub fn steps(&self) -> &[Step]
         ensures value { result.now ≡ self.now.trail.steps }
+        ensures wired { N.tells → IsWired self.now.trail.client (N.history self.now.net) (facts_of self.now.trail.lists self.now.trail.steps) }
         ensures legal { IsLegal self.now.trail.client self.now.trail.lists self.now.trail.steps }
         ensures point { self.now.trail.point ≡ point_behind self.now.trail.client (facts_of self.now.trail.lists self.now.trail.steps) }
     {
@@ -141,6 +157,13 @@ impl<N: Net> WiredTrail<N> {
         self.lines.is_idle(stream)
     }
 
+    /// Whether a stream is in use, and each request on it was answered, by the trail.
+    pub fn is_free(&self, stream: u64) -> bool
+        ensures free { N.tells → result ≡ true → (told_of self.now.trail stream).last ≡ None }
+    {
+        self.lines.use_of(stream).is_some() && self.pendings.is_nothing(stream)
+    }
+
     /// Takes room for so much more. After its Ok as much can be appended without memory. Nothing that is written changes, and
     /// no room is lost, also where memory is wanting.
     pub fn reserve(&mut self, more: Room) -> Result<(), Memory>
@@ -151,18 +174,65 @@ impl<N: Net> WiredTrail<N> {
         self.trail.reserve(more)
     }
 
-    /// Appends an entry that names no place that is new, and may stand next. Where it begins to use a stream, that one is in
-    /// use.
+    /// Appends an entry that names no place that is new, and may stand next. It says nothing of a stream, of a dial without one or of
+    /// a cluster time; where it begins to use a stream, that one is in use.
     pub fn append(&mut self, moment: u64, entry: Entry)
         requires room { IsAtLeast an_entry self.old.trail.room }
         requires stands { (told : Fact) × (fact_of self.old.trail.lists entry ≡ Some told)
             × StandsAt self.old.trail.client self.old.trail.point (record { at = moment; what = told }) }
-        requires uses { (told : Fact) → fact_of self.old.trail.lists entry ≡ Some told → UsesGiven self.old.lines told }
+        requires plain { (told : Fact) → fact_of self.old.trail.lists entry ≡ Some told → IsPlain self.old.lines told }
+        ensures adds { (told : Fact) → fact_of self.old.trail.lists entry ≡ Some told
+            → Adds an_entry self.old.trail.lists moment entry told self.old.trail self.new.trail }
+        ensures same { self.new ≡ record self.old { trail = self.new.trail } }
+        ensures silent { (stream : ℕ) → told_of self.new.trail stream ≡ told_of self.old.trail stream }
+    {
+        self.trail.append(moment, entry);
+    }
+
+    /// Appends an entry that tells what became of the last request on a stream, and may stand next; None where no stream was dialled.
+    /// Where the net tells, that was heard there by a turn, and nothing was told of it since.
+    pub fn tell(&mut self, moment: u64, entry: Entry, stream: Option<u64>)
+        requires room { IsAtLeast an_entry self.old.trail.room }
+        requires stands { (told : Fact) × (fact_of self.old.trail.lists entry ≡ Some told)
+            × StandsAt self.old.trail.client self.old.trail.point (record { at = moment; what = told }) }
+        requires speaks { (told : Fact) → fact_of self.old.trail.lists entry ≡ Some told
+            → SpeaksOf self.old.trail.client self.old.trail.point.state moment stream told }
+        requires heard { N.tells → (told : Fact) → fact_of self.old.trail.lists entry ≡ Some told
+            → TellsHeard (N.history self.old.net) self.old.trail moment told }
         ensures adds { (told : Fact) → fact_of self.old.trail.lists entry ≡ Some told
             → Adds an_entry self.old.trail.lists moment entry told self.old.trail self.new.trail }
         ensures same { self.new ≡ record self.old { trail = self.new.trail } }
     {
+        self.pendings.tell(stream, is_reply(&entry));
         self.trail.append(moment, entry);
+    }
+
+    /// Appends an entry that tells of a dial without a stream, and may stand next. Where the net tells, it told of such a dial of which
+    /// no entry tells yet.
+    pub fn tell_undialled(&mut self, moment: u64, entry: Entry)
+        requires room { IsAtLeast an_entry self.old.trail.room }
+        requires stands { (told : Fact) × (fact_of self.old.trail.lists entry ≡ Some told)
+            × StandsAt self.old.trail.client self.old.trail.point (record { at = moment; what = told }) }
+        requires undialled { (told : Fact) → fact_of self.old.trail.lists entry ≡ Some told → says_no_dial told ≡ true }
+        requires untold { N.tells → HasUntoldDial (N.history self.old.net) self.old.trail }
+        ensures adds { (told : Fact) → fact_of self.old.trail.lists entry ≡ Some told
+            → Adds an_entry self.old.trail.lists moment entry told self.old.trail self.new.trail }
+        ensures same { self.new ≡ record self.old { trail = self.new.trail } }
+        ensures silent { (stream : ℕ) → told_of self.new.trail stream ≡ told_of self.old.trail stream }
+    {
+        self.trail.append(moment, entry);
+    }
+
+    /// Appends an entry that tells of a cluster time, and may stand next. Where the net tells, that time came.
+    pub fn tell_time(&mut self, moment: u64, stamp: u64)
+        requires room { IsAtLeast an_entry self.old.trail.room }
+        requires stands { StandsAt self.old.trail.client self.old.trail.point (record { at = moment; what = fact.Time stamp }) }
+        requires came { N.tells → HasCome (N.history self.old.net) stamp }
+        ensures adds { Adds an_entry self.old.trail.lists moment (entry_of.Time stamp) (fact.Time stamp) self.old.trail self.new.trail }
+        ensures same { self.new ≡ record self.old { trail = self.new.trail } }
+        ensures silent { (stream : ℕ) → told_of self.new.trail stream ≡ told_of self.old.trail stream }
+    {
+        self.trail.append(moment, Entry::Time { stamp });
     }
 
     /// Names a host: it gets the next number, and an entry says so, which may stand next.
@@ -178,8 +248,11 @@ impl<N: Net> WiredTrail<N> {
         self.trail.name(moment, host);
     }
 
-    /// Offers an event: it is the next one, and an entry says what became of it, which may stand next.
-    pub fn offer(&mut self, moment: u64, event: TopoEvent, taken: OfferedHow)
+    /// Offers an event: it is the next one, and an entry says what became of it, which may stand next. Where it is a reply's, `stream`
+    /// is that of the server's checks, and where the net tells the reply was heard there.
+    pub fn offer(&mut self, moment: u64, event: TopoEvent, taken: OfferedHow, stream: Option<u64>)
+        requires speaks { OffersOf self.old.trail.point.state stream event }
+        requires heard { N.tells → WasHeard (N.history self.old.net) self.old.trail (of_offered self.old.trail.point.state event) }
         requires room { IsAtLeast an_event self.old.trail.room }
         requires stands { StandsAt self.old.trail.client self.old.trail.point
             (record { at = moment; what = fact.Offered (length self.old.trail.lists.events) event taken }) }
@@ -188,6 +261,7 @@ impl<N: Net> WiredTrail<N> {
             self.old.trail self.new.trail }
         ensures same { self.new ≡ record self.old { trail = self.new.trail } }
     {
+        self.pendings.tell(reply_stream(&event, stream), true);
         self.trail.offer(moment, event, taken);
     }
 
@@ -204,11 +278,12 @@ impl<N: Net> WiredTrail<N> {
         self.trail.lease(moment, op, id);
     }
 
-    /// Queues a request whole on its stream, of which all is sent: it is the next one, and an entry says so, which may stand
-    /// next. `bytes` are the request's.
+    /// Queues a request whole on its stream, of which all is sent, and on which each request was answered: it is the next one, and an
+    /// entry says so, which may stand next. `bytes` are the request's.
     pub fn ask(&mut self, moment: u64, request: Request, bytes: Bytes)
         requires bytes { bytes ≡ request.bytes }
         requires idle { IsIdle self.old.lines request.stream }
+        requires free { N.tells → (told_of self.old.trail request.stream).last ≡ None }
         requires room { IsAtLeast a_request self.old.trail.room }
         requires stands { StandsAt self.old.trail.client self.old.trail.point
             (record { at = moment; what = fact.Asked (length self.old.trail.lists.requests) request }) }
@@ -219,7 +294,9 @@ impl<N: Net> WiredTrail<N> {
         ensures others { KeepsOthers request.stream self.old.lines self.new.lines }
         ensures net { self.new.net ≡ self.old.net }
     {
+        let id = id_of(&request);
         self.lines.queue(request.stream, bytes);
+        self.pendings.queue(request.stream, id);
         self.trail.ask(moment, request);
     }
 
@@ -229,26 +306,31 @@ impl<N: Net> WiredTrail<N> {
         ensures trail { self.new.trail ≡ self.old.trail }
         ensures lines { BeginsBy result is_for self.old.lines self.new.lines }
         ensures fresh { IfStream result (IsNew self.old.trail.point.state) }
+        ensures free { N.tells → IfStream result (λ stream. (told_of self.old.trail stream).last ≡ None) }
+        ensures untold { N.tells → result ≡ Dialed.Failed → HasUntoldDial (N.history self.new.net) self.new.trail }
         ensures cause { HasCause (N.faults self.old.net) (N.faults self.new.net) (result ≡ Dialed.Failed) }
     {
         match self.net.dial(address) {
-            Dialed::Stream(stream) => match self.lines.add(alloc, stream, is_for) {
-                Ok(()) => Dialed::Stream(stream),
-                Err(_) => {
-                    self.net.close(stream);
-                    Dialed::Memory
+            Dialed::Stream(stream) => {
+                match keep(alloc, &mut self.lines, &mut self.pendings, stream, is_for) {
+                    Ok(()) => Dialed::Stream(stream),
+                    Err(_) => {
+                        self.net.close(stream);
+                        Dialed::Memory
+                    }
                 }
-            },
+            }
             Dialed::Failed => Dialed::Failed,
             Dialed::Memory => Dialed::Memory,
         }
     }
 
-    /// Sends and receives on a stream what the net takes and has now: the next message of it, where that is there whole. A
-    /// stream that ended, failed or brought what is no message is closed.
-    pub fn turn(&mut self, alloc: Global, stream: u64) -> Pulled
+    /// Sends and receives on a stream what the net takes and has now, for the request of that id, which waits there for its answer: the
+    /// next message of it, where that is there whole. A stream that ended, failed or brought what is no message is closed.
+    pub fn turn(&mut self, alloc: Global, stream: u64, id: i32) -> Pulled
         requires there { IsThere self.old.lines stream }
         ensures trail { self.new.trail ≡ self.old.trail }
+        ensures heard { N.tells → result ≢ Pulled.Memory → Heard result id (seen stream (N.history self.new.net)) (told_of self.old.trail stream) }
         ensures turns { IfSome (line_at self.old.lines stream) (λ before. Turns N.tells stream result before (line_at self.new.lines stream)
             (N.history self.old.net) (N.history self.new.net)) }
         ensures others { KeepsOthers stream self.old.lines self.new.lines }
@@ -256,15 +338,23 @@ impl<N: Net> WiredTrail<N> {
         ensures waits { N.tells → result ≡ Pulled.NotYet → IfSome (line_at self.new.lines stream) (λ now.
             MustWait now.wire.unsent (N.is_full self.new.net stream) (N.inbox self.new.net stream) (N.has_ended self.new.net stream)) }
     {
+        if !self.pendings.is_reply(stream, id) {
+            // (cannot be: a request is waited for from when it is queued until an entry tells what became of it)
+            return Pulled::Memory;
+        }
         let answer = self.lines.turn(alloc, &mut self.net, stream);
         if is_over(&answer) {
             self.lines.take_out(stream);
+            self.pendings.remove(stream);
             self.net.close(stream);
+        } else {
+            self.pendings.set(stream, Pending::behind(&answer, id));
         }
         answer
     }
 
-    /// Sends on a stream what the net takes now, and reads nothing. A stream that failed is closed.
+    /// Sends on a stream what the net takes now of the request that waits there for its answer, and reads nothing. A stream that failed
+    /// is closed.
     pub fn push(&mut self, stream: u64) -> Pushed
         requires there { IsThere self.old.lines stream }
         ensures trail { self.new.trail ≡ self.old.trail }
@@ -273,9 +363,14 @@ impl<N: Net> WiredTrail<N> {
         ensures others { KeepsOthers stream self.old.lines self.new.lines }
         ensures cause { HasCause (N.faults self.old.net) (N.faults self.new.net) (result ≡ Pushed.Fault) }
     {
+        if !self.pendings.is_waiting(stream) {
+            // (cannot be: a request was queued on it, and nothing was read there since)
+            return Pushed::Memory;
+        }
         let answer = self.lines.push(&mut self.net, stream);
-        if answer == Pushed::Fault {
+        if is_fault(answer) {
             self.lines.take_out(stream);
+            self.pendings.remove(stream);
             self.net.close(stream);
         }
         answer
@@ -287,9 +382,11 @@ impl<N: Net> WiredTrail<N> {
         ensures trail { self.new.trail ≡ self.old.trail }
         ensures gone { line_at self.new.lines stream ≡ None }
         ensures others { KeepsOthers stream self.old.lines self.new.lines }
+        ensures seen { N.tells → (other : ℕ) → seen other (N.history self.new.net) ≡ seen other (N.history self.old.net) }
         ensures cause { N.faults self.old.net ≤ N.faults self.new.net }
     {
         self.lines.take_out(stream);
+        self.pendings.remove(stream);
         self.net.close(stream);
     }
 
@@ -302,8 +399,9 @@ impl<N: Net> WiredTrail<N> {
         net
     }
 
-    /// Closes all streams. It gives the net back, and the trail as it is.
+    /// Closes all streams. It gives the net back, and the trail as it is: what the net told, where that tells.
     pub fn finish(self) -> Finished<N>
+        ensures wired { N.tells → IsWired self.trail.client (N.history result.net) (facts_of (lists_of result.parts.trail) result.parts.trail.steps) }
         ensures lists { lists_of result.parts.trail ≡ self.trail.lists }
         ensures steps { result.parts.trail.steps ≡ self.trail.steps }
         ensures settings { result.parts.settings ≡ self.trail.client.settings }
@@ -316,6 +414,7 @@ impl<N: Net> WiredTrail<N> {
             trail,
             mut net,
             lines,
+            ..
         } = self;
         close_all(&mut net, lines);
         Finished {
@@ -339,10 +438,76 @@ fn is_over(answer: &Pulled) -> bool
     }
 }
 
+/// Keeps a stream that was dialled, on which nothing is pending.
+fn keep(
+    alloc: Global,
+    lines: &mut Lines,
+    pendings: &mut Pendings,
+    stream: u64,
+    is_for: StreamUse,
+) -> Result<(), Memory>
+    requires unused { line_at lines.old stream ≡ None }
+    ensures ok { OnOk result (Begins is_for lines.old lines.new stream) }
+    ensures nothing { OnOk result (pending_at pendings.new stream ≡ Some pending.Nothing) }
+    ensures others { KeepsPending stream pendings.old pendings.new }
+    ensures err { OnErr result (lines.new ≡ lines.old) }
+{
+    pendings.add(stream)?;
+    if let Err(memory) = lines.add(alloc, stream, is_for) {
+        pendings.remove(stream);
+        return Err(memory);
+    }
+    Ok(())
+}
+
+/// The id of a request.
+fn id_of(request: &Request) -> i32
+    ensures { result ≡ request.now.id }
+{
+    request.id
+}
+
+/// The stream of a reply that is offered; None where the event is no reply's.
+fn reply_stream(event: &TopoEvent, stream: Option<u64>) -> Option<u64>
+    ensures { result ≡ stream_offered event.now stream }
+{
+    match event {
+        TopoEvent::Reply { .. } => stream,
+        TopoEvent::Broken { .. } | TopoEvent::Refused { .. } => None,
+    }
+}
+
+/// Whether an entry tells of a reply.
+fn is_reply(entry: &Entry) -> bool
+    ensures { (lists : Lists) (told : Fact) → fact_of lists entry.now ≡ Some told → result ≡ tells_reply told }
+{
+    match entry {
+        Entry::CheckEnded { how, .. } => {
+            matches!(how, CheckHow::Reply { .. } | CheckHow::Refused { .. })
+        }
+        Entry::Settled { .. } => true,
+        Entry::NotLent { why, .. } => matches!(why, Unsent::Greeting { .. }),
+        Entry::Ended { end, .. } => matches!(end, AttemptEnd::Replied(_)),
+        _ => false,
+    }
+}
+
+/// Whether a stream is not to be used any more behind this answer.
+fn is_fault(answer: Pushed) -> bool
+    ensures { result ≡ push_shuts answer }
+{
+    match answer {
+        Pushed::Fault => true,
+        Pushed::Done | Pushed::NotYet | Pushed::Memory => false,
+    }
+}
+
 /// Closes the streams of lines, which are open.
 fn close_all<N: Net>(net: &mut N, mut lines: Lines)
     requires { (stream : ℕ) → IsThere lines stream → N.is_open net.old stream }
-    ensures { N.faults net.old ≤ N.faults net.new }
+    ensures cause { N.faults net.old ≤ N.faults net.new }
+    ensures seen { N.tells → (stream : ℕ) → seen stream (N.history net.new) ≡ seen stream (N.history net.old) }
+    ensures grows { N.tells → IsPrefixOf (N.history net.old) (N.history net.new) }
 {
     'closing: while let Some(stream) = lines.take_first() {
         net.close(stream);

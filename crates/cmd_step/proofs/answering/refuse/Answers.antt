@@ -1,4 +1,4 @@
-use Rattle.std.proofs.Common.{refl, ap, ◌∙◌, arith}
+use Rattle.std.proofs.Common.{refl, ap, ◌∙◌, arith, ◌≡◌, subst}
 use Rattle.write_retry.specs.declared.attempt_end.AttemptEnd.TheVariants as attempt
 use Rattle.write_retry.specs.declared.events.OpEvent.TheVariants as event
 use Rattle.desk_trail.specs.Attempts.{end_by, with_event}
@@ -7,6 +7,8 @@ use Rattle.desk_trail.specs.Legal.{Point}
 use Rattle.desk_trail.specs.States.{CommandState}
 use Rattle.cmd_step.proofs.RefusalLemmas.{StandsAt-refused, StandsAt-unsent, behind-unsent, refused}
 use Rattle.cmd_step.proofs.answering.refuse.Goals as goal
+use Rattle.wired_trail.specs.Hearing.{IsPlain}
+use Rattle.cmd_step.proofs.HeardLemmas.{refusal-plain}
 
 pub append-requires-clause-stands : goal.append-requires-clause-stands
 append-requires-clause-stands g c = (
@@ -49,3 +51,9 @@ returns-clause-refused g c =
           c.args.running.now c.end.new.self c.requires.answered.2 mid
           (c.end.ensures.ended ∙ ap (λ (x : CommandState). with_event (event.Unsent c.args.why) (end_by (attempt.Unsent c.args.why) x)) c.leave_pool.ensures.left);
     }
+
+pub append-requires-clause-plain : goal.append-requires-clause-plain
+append-requires-clause-plain g c = λ told is.
+    let same : fact.NotLent c.args.at.op c.args.at.host c.args.why ≡ told = cc in
+    subst (IsPlain c.args.wired.now.lines) same
+    (refusal-plain c.args.wired.now.lines c.args.at.op c.args.at.host c.args.why c.requires.answered.0 c.requires.answered.1)

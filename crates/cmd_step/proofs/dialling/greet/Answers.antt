@@ -1,16 +1,17 @@
 use Rattle.std.proofs.Common.{◌≡◌, None, refl, sym, ap, ◌∙◌, subst, arith, Some}
 use Rattle.std.specs.Option.{option_map}
 use Rattle.std.specs.Prelude.{length}
-use Rattle.desk_trail.specs.Facts.{Fact, Lists}
+use Rattle.desk_trail.specs.Facts.{Lists}
 use Rattle.desk_trail.specs.Facts as fact
 use Rattle.desk_trail.specs.Requests.{id_at}
 use Rattle.desk_trail.specs.States.{stream_of}
 use Rattle.desk_wire.specs.State.{opened}
 use Rattle.wired_trail.specs.declared.stream_use.StreamUse.TheVariants as for_use
 use Rattle.wired_trail.specs.Lines.{line_at, with_unsent}
-use Rattle.wired_trail.specs.Standing.{UsesGiven}
+use Rattle.wired_trail.specs.Hearing.{IsPlain}
 use Rattle.cmd_step.proofs.DialLemmas.{StandsAt-dialled, StandsAt-greeted, behind-greeted, dialled-on, paid-greeted, stream_of-streamed, streamed}
 use Rattle.cmd_step.proofs.dialling.greet.Goals as goal
+use Rattle.desk_trail.specs.Streams.{Account}
 
 pub append-requires-clause-stands : goal.append-requires-clause-stands
 append-requires-clause-stands g c = (
@@ -20,10 +21,10 @@ append-requires-clause-stands g c = (
       c.requires.free c.requires.is_new c.requires.answered,
 )
 
-pub append-requires-clause-uses : goal.append-requires-clause-uses
-append-requires-clause-uses g c = λ told is.
+pub append-requires-clause-plain : goal.append-requires-clause-plain
+append-requires-clause-plain g c = λ told is.
     let same : fact.Dialled c.args.dial.at.op c.args.dial.at.host c.args.dial.conn (Some c.args.made.request.stream) ≡ told = cc in
-    subst (UsesGiven c.args.wired.now.lines) same
+    subst (IsPlain c.args.wired.now.lines) same
     (record { line = record { wire = opened c.args.made.request.stream; is_for = for_use.Conn c.args.dial.at.host c.args.dial.conn }; there = c.requires.line })
 
 pub keep_stream-requires-clause-dialled : goal.keep_stream-requires-clause-dialled
@@ -91,3 +92,6 @@ returns-clause-queued g c =
 
 pub returns-clause-others : goal.returns-clause-others
 returns-clause-others g c = λ other apart. c.ask.ensures.others other apart ∙ ap (λ ls. line_at ls other) (ap (λ w. w.lines) c.append.ensures.same)
+
+pub ask-requires-clause-free : goal.ask-requires-clause-free
+ask-requires-clause-free g c = λ tells. ap (λ (a : Account). a.last) (c.append.ensures.silent c.args.made.request.stream) ∙ c.requires.free_stream tells

@@ -21,3 +21,9 @@ returns-in-Lent-clause-idle g c = ap (λ (x : ServerState). x.pool.owed) (c.esta
 
 pub returns-in-Stale-clause-idle : goal.returns-in-Stale-clause-idle
 returns-in-Stale-clause-idle g c = ap (λ (x : ServerState). x.pool.owed) (c.established.ensures.goes c.requires.dialled.held c.requires.dialled.pending).moves
+
+pub lend_dialled-requires-clause-heard : goal.lend_dialled-requires-clause-heard
+lend_dialled-requires-clause-heard g c = λ tells. c.requires.heard tells false
+
+pub shut_dialled-why-requires-clause-heard : goal.shut_dialled-why-requires-clause-heard
+shut_dialled-why-requires-clause-heard g c = λ tells. c.requires.heard tells true

@@ -10,4 +10,6 @@ returns-in-Ok c =
       ends = λ answer whole. (c.saturating_sub-sample.ensures, record { description = c.in-Ok.description; says = refl; of_host = plain.of_host }, whole);
       timed = search rules;
       few = omega (arith, plain.few, c.if-check-lt-MOST_HOSTS.true);
+      says = (search rules, (search rules, search rules));
+      carries = search rules;
     }

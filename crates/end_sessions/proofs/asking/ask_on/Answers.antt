@@ -1,11 +1,10 @@
-use Rattle.std.proofs.Common.{◌≡◌, ◌<◌, ◌+◌, ℕ, List, [], ◌∷◌, ◌++◌, Some, length, refl, sym, ap, ◌∙◌, subst, arith}
+use Rattle.std.proofs.Common.{◌≡◌, ◌+◌, ℕ, List, [], ◌∷◌, ◌++◌, Some, length, refl, sym, ap, ◌∙◌, subst, arith}
 use Rattle.std.specs.Prelude.{nat_eq, slice_get, slice_index_or}
 use Rattle.std.specs.List.{list_any}
 use Rattle.std.proofs.lemmas.Option.{slice_get-get_or}
 use Rattle.desk_trail.specs.declared.room.Room.{Room}
 use Rattle.desk_trail.specs.Requests.{id_at}
 use Rattle.wired_trail.specs.Lines.{IsIdle}
-use Rattle.wired_trail.specs.Standing.{Standing}
 use Rattle.end_sessions.specs.Carriers.{Carries}
 use Rattle.end_sessions.specs.Farewells.{MayCarry}
 use Rattle.end_sessions.proofs.CarrierLemmas.{Carries-none, Carries-one, IsThere-queued, StandsAt-next}
@@ -68,3 +67,11 @@ returns-clause-carries g c =
     (Carries-one c.args.asking.moment c.args.asking.closings (length c.reserve-2.new.self.trail.lists.requests) c.args.stream c.args.asking.lists.now c.args.carriers.now.items
     c.args.wired.now c.reserve-2.new.self c.ask.new.self c.push.new.self c.in_ok-made.made.request c.requires.ready c.reserve-2.ensures.same (omega (arith, least, is))
     c.ask.ensures.adds c.ask.ensures.others c.push.ensures.trail c.push.ensures.others c.in_ok-made.ensures.stream c.in_ok-made.ensures.purpose)
+
+pub returns-in_err-check_free-clause-carries : goal.returns-in_err-check_free-clause-carries
+returns-in_err-check_free-clause-carries g c =
+    let kept = c.reserve-2.ensures.kept.steps in
+    let room = c.requires.ready.room in
+    subst (λ (x : List ℕ). Carries c.args.asking.moment c.args.asking.closings c.args.wired.now c.reserve-2.new.self c.args.carriers.now.items x) (sym c.reserve.ensures.items)
+    (Carries-none c.args.asking.moment c.args.asking.closings c.args.asking.lists.now c.args.wired.now c.reserve-2.new.self c.args.carriers.now.items c.requires.ready
+    c.reserve-2.ensures.same (omega (arith, kept, room)))

@@ -1,7 +1,13 @@
-use Rattle.std.proofs.Common.{◌<◌, ap, subst}
+use Rattle.std.proofs.Common.{◌<◌, ap, subst, ◌≡◌, Some, w32, to_z, of_z}
 use Rattle.std.specs.Option.{IfNone, IfSome}
 use Rattle.desk_core.specs.Receiving.{IsHeard}
 use Rattle.desk_core.specs.Steps.{for_reply}
+use Rattle.cmd_reply.specs.declared.attempt.AttemptResult.{AttemptResult}
+use Rattle.desk_trail.specs.Streams.{stream_at}
+use Rattle.desk_core.specs.Hearing.{HearsAttempt}
+use Rattle.std.specs.Prelude.{Option}
+use Rattle.cmd_reply.specs.declared.waiting.Waiting.{Waiting}
+use Rattle.desk_core.proofs.HeardLemmas.{attempt-heard, stream-lent}
 use Rattle.desk_core.proofs.AppendsLemmas.{grown-same}
 use Rattle.desk_core.proofs.AttemptLemmas.{IsEnd-by, IsKept-lines, MovesOne-same}
 use Rattle.desk_core.proofs.BesideLemmas.{KeepsCheckLines-conn}
@@ -64,3 +70,35 @@ returns-in-None-clause-appends g c =
     rw (← c.self.view_is)
     (grown-same c.args.at.moment c.self.inside.wired.trail c.hear.new.wired.trail (ap (λ t. t.client) c.hear.ensures.trail) (ap (λ t. t.lists) c.hear.ensures.trail)
     (ap (λ t. t.steps) c.hear.ensures.trail))
+
+pub end_behind-requires-clause-on : goal.end_behind-requires-clause-on
+end_behind-requires-clause-on g c =
+    let lent = rw (← c.self.view_is) at c.requires.lent in
+    let on = rw (← c.self.view_is) at c.requires.on in
+    let there = rw (← c.self.view_is) at c.requires.work.there in
+    rw (c.hear.ensures.trail)
+    (stream-lent c.self.inside.wired.trail.point.state c.self.inside.wired.lines c.args.at.op c.args.stream c.args.operation.now c.args.at.lent there lent on)
+
+pub end_behind-requires-clause-heard : goal.end_behind-requires-clause-heard
+end_behind-requires-clause-heard g c = λ tells.
+    let lent = rw (← c.self.view_is) at c.requires.lent in
+    let on = rw (← c.self.view_is) at c.requires.on in
+    let there = rw (← c.self.view_is) at c.requires.work.there in
+    let has : stream_at c.hear.new.wired.trail.point.state c.args.at.op ≡ Some c.args.stream = rw (c.hear.ensures.trail)
+    (stream-lent c.self.inside.wired.trail.point.state c.self.inside.wired.lines c.args.at.op c.args.stream c.args.operation.now c.args.at.lent there lent on) in
+    let waiting : Waiting = record { id = to_z w32 (of_z w32 c.operation.inside.awaited); limit = c.args.limit } in
+    let heard =
+    subst (λ (o : Option AttemptResult). IfSome o (HearsAttempt (g.N.Net.history c.hear.new.wired.net) c.hear.new.wired.trail c.args.stream waiting c.args.at.moment)) c.in-Some.is (c.in_ok-came.ensures.hears tells) in
+    (attempt-heard (g.N.Net.history c.hear.new.wired.net) c.hear.new.wired.trail c.args.stream c.args.at.op waiting c.args.at.moment c.in-Some.ended heard has).0
+
+pub end_behind-requires-clause-came : goal.end_behind-requires-clause-came
+end_behind-requires-clause-came g c = λ tells.
+    let lent = rw (← c.self.view_is) at c.requires.lent in
+    let on = rw (← c.self.view_is) at c.requires.on in
+    let there = rw (← c.self.view_is) at c.requires.work.there in
+    let has : stream_at c.hear.new.wired.trail.point.state c.args.at.op ≡ Some c.args.stream = rw (c.hear.ensures.trail)
+    (stream-lent c.self.inside.wired.trail.point.state c.self.inside.wired.lines c.args.at.op c.args.stream c.args.operation.now c.args.at.lent there lent on) in
+    let waiting : Waiting = record { id = to_z w32 (of_z w32 c.operation.inside.awaited); limit = c.args.limit } in
+    let heard =
+    subst (λ (o : Option AttemptResult). IfSome o (HearsAttempt (g.N.Net.history c.hear.new.wired.net) c.hear.new.wired.trail c.args.stream waiting c.args.at.moment)) c.in-Some.is (c.in_ok-came.ensures.hears tells) in
+    (attempt-heard (g.N.Net.history c.hear.new.wired.net) c.hear.new.wired.trail c.args.stream c.args.at.op waiting c.args.at.moment c.in-Some.ended heard has).1

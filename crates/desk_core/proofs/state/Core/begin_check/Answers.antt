@@ -1,4 +1,4 @@
-use Rattle.std.proofs.Common.{◌≡◌, not, None, Some, sym, ap, ◌∙◌, subst}
+use Rattle.std.proofs.Common.{rules, ◌≡◌, not, None, Some, sym, ap, ◌∙◌, subst}
 use Rattle.std.specs.Prelude.{IfSome, is_some, slice_get}
 use Rattle.desk_trail.specs.Checks.{IsCheckStream, IsNew}
 use Rattle.desk_trail.specs.States.{ClientState, ServerState}
@@ -58,3 +58,6 @@ end_undialled-requires-clause-due g c =
     let state : c.dial_check.new.self.trail.point.state ≡ c.self.inside.wired.trail.point.state =
     ap (λ d. d.trail.point.state) c.dial_check.ensures.same ∙ ap (λ d. d.trail.point.state) (sym c.self.view_is) in
     (due.0, ap (λ (s : ClientState). slice_get s.servers c.args.host) state ∙ due.1, (due.2, none))
+
+pub end_undialled-requires-clause-untold : goal.end_undialled-requires-clause-untold
+end_undialled-requires-clause-untold g c = λ tells. c.dial_check.ensures.untold tells (search rules)

@@ -1,4 +1,4 @@
-use Rattle.std.proofs.Common.{◌≡◌, ◌∷◌, [], length, Some, refl, sym, ap, ◌∙◌, subst, arith, ◌+◌}
+use Rattle.std.proofs.Common.{◌≡◌, ◌∷◌, [], length, Some, refl, sym, ap, ◌∙◌, subst, arith, ◌+◌, None}
 use Rattle.std.specs.Prelude.{drop, slice_get}
 use Rattle.std.specs.Option.{option_map}
 use Rattle.std.proofs.lemmas.Option.{slice_get_within}
@@ -14,9 +14,11 @@ use Rattle.desk_trail.specs.Requests.{id_at}
 use Rattle.desk_trail.specs.States.{ClientState, ServerState}
 use Rattle.desk_trail.specs.Written.{IsAtLeast, a_request, an_entry}
 use Rattle.legal_trail.specs.Recorded.{Recorded}
-use Rattle.wired_trail.specs.Lines.{KeepsOthers, line_at, with_unsent}
+use Rattle.wired_trail.specs.Lines.{KeepsOthers, line_at, with_unsent, IsThere}
 use Rattle.desk_core.specs.Kept.{MayBegin}
 use Rattle.desk_core.specs.Rests.{HasBegun}
+use Rattle.desk_trail.specs.Streams.{Account}
+use Rattle.wired_trail.specs.Hearing.{IsPlain, told_of}
 use Rattle.desk_core.proofs.AppendsLemmas.{Appends-adds, Appends-room, Appends-trans, AreLonger-refl, AreLonger-requests, kept-by_begin, kept-by_hello}
 use Rattle.desk_core.proofs.CheckLemmas.{Begins, IsBegun, IsBegun-by, IsKept-begun, StandsAt-began, StandsAt-hello}
 use Rattle.desk_core.proofs.DropLemmas.{read-there}
@@ -252,3 +254,17 @@ returns-clause-begins g c =
     (HasBegun-led r c.ask.new.self.trail c.reserve.new.self.lines c.ask.new.self.lines c.self.inside.topology.topology c.self.inside.servers.items c.self.inside.gossip c.self.inside.last
     c.args.moment c.args.host c.args.stream due.0 c.begin_check.new.self (kept.leads ready.runs) (now.leads ready.runs) there
     (c.begin_check.ensures.begins ∙ ap (check_begins c.args.moment c.args.stream) is) due.2.0.stays))
+
+pub append-requires-clause-plain : goal.append-requires-clause-plain
+append-requires-clause-plain g c = λ told is.
+    let line = rw (← c.self.view_is) at c.requires.line in
+    let same : fact.CheckBegan c.args.host c.args.stream ≡ told = cc in
+    let there : IsThere c.self.inside.wired.lines c.args.stream = record { line = line.0; there = line.1 } in
+    subst (IsPlain c.reserve.new.self.lines) same (subst (λ l. IsThere l c.args.stream) (sym (ap (λ s. s.lines) c.reserve.ensures.same)) there)
+
+pub ask-requires-clause-free : goal.ask-requires-clause-free
+ask-requires-clause-free g c = λ tells.
+    let before = rw (← c.self.view_is) at (c.in_ok-check_free.ensures.free tells) in
+    let free : (told_of c.reserve.new.self.trail c.args.stream).last ≡ None =
+    subst (λ (t : Recorded). (told_of t c.args.stream).last ≡ None) (sym (ap (λ s. s.trail) c.reserve.ensures.same)) before in
+    subst (λ s. (told_of c.append.new.self.trail s).last ≡ None) (sym c.in_ok-request.ensures.hello.on) (ap (λ (a : Account). a.last) (c.append.ensures.silent c.args.stream) ∙ free)

@@ -23,8 +23,8 @@ returns-in-Dials-clause-appends g c =
     Appends-behind (g.N.Net.faults c.args.self.now.net) (g.N.Net.faults c.sweep_at.new.self.net) (g.N.Net.faults c.check_out_at.new.self.net) c.args.moment c.args.self.now.trail
     c.sweep_at.new.self.trail c.check_out_at.new.self.trail c.sweep_at.ensures.faults c.sweep_at.ensures.appends c.check_out_at.ensures.appends
 
-pub returns-in-Wait-clause-appends : goal.returns-in-Wait-clause-appends
-returns-in-Wait-clause-appends g c =
+pub returns-in_ok-until-in-Wait-clause-appends : goal.returns-in_ok-until-in-Wait-clause-appends
+returns-in_ok-until-in-Wait-clause-appends g c =
     Appends-behind (g.N.Net.faults c.args.self.now.net) (g.N.Net.faults c.sweep_at.new.self.net) (g.N.Net.faults c.check_out_at.new.self.net) c.args.moment c.args.self.now.trail
     c.sweep_at.new.self.trail c.check_out_at.new.self.trail c.sweep_at.ensures.faults c.sweep_at.ensures.appends c.check_out_at.ensures.appends
 
@@ -63,10 +63,22 @@ offer_broken-requires g c =
           c.generation_at-generation.ensures;
     }
 
-pub returns-in-Wait-clause-means : goal.returns-in-Wait-clause-means
-returns-in-Wait-clause-means g c =
+pub returns-in_err-until-in-Wait-clause-appends : goal.returns-in_err-until-in-Wait-clause-appends
+returns-in_err-until-in-Wait-clause-appends g c =
+    Appends-behind (g.N.Net.faults c.args.self.now.net) (g.N.Net.faults c.sweep_at.new.self.net) (g.N.Net.faults c.check_out_at.new.self.net) c.args.moment c.args.self.now.trail
+    c.sweep_at.new.self.trail c.check_out_at.new.self.trail c.sweep_at.ensures.faults c.sweep_at.ensures.appends c.check_out_at.ensures.appends
+
+pub returns-in_ok-until-in-Wait-clause-means : goal.returns-in_ok-until-in-Wait-clause-means
+returns-in_ok-until-in-Wait-clause-means g c =
     let host = c.line_of-host.result.0 in
     let at : IsBehindAnswer c.check_out_at.new.self c.args.moment host c.check_out_at.new.operation answer.Wait =
     subst (λ (a : Answer). IsBehindAnswer c.check_out_at.new.self c.args.moment host c.check_out_at.new.operation a) c.in-Wait.is c.in_ok-check_out_at.ensures.answer in
-    IsWaiting-line c.args.self.now.trail.client c.check_out_at.new.self.trail.point.state c.args.moment c.limit_behind-until.result host c.check_out_at.new.operation at.1
-    c.limit_behind-until.ensures
+    IsWaiting-line c.args.self.now.trail.client c.check_out_at.new.self.trail.point.state c.args.moment c.in_ok-until-in-Wait.until host _ _ c.check_out_at.new.operation at.1
+    c.line_of.ensures.line c.in_ok-until-in-Wait.ensures.limit c.in_ok-until-in-Wait.ensures.later
+
+pub line_of-requires : goal.line_of-requires
+line_of-requires g c =
+    let host = c.line_of-host.result.0 in
+    let at : IsBehindAnswer c.check_out_at.new.self c.args.moment host c.check_out_at.new.operation answer.Wait =
+    subst (λ (a : Answer). IsBehindAnswer c.check_out_at.new.self c.args.moment host c.check_out_at.new.operation a) c.in-Wait.is c.in_ok-check_out_at.ensures.answer in
+    record { waits = (host, at.1.2.0, at.1.2.1) }

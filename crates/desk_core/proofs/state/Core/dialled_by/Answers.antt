@@ -31,5 +31,6 @@ returns-clause-dialled g c =
       pending = search rules;
       generation = refl;
       dials = search rules;
+      stream_there = search rules;
       asks = asks-by c.in-Dials.host c.in-Dials.ticket c.in-Dials.conn c.args.running.now dials law;
     }

@@ -101,3 +101,6 @@ returns-clause-appends g c =
     (grown-trans c.args.at.moment old a e (grown-weaken c.args.at.moment old a (λ x. inr x) c.write_end.ensures.appends) (grown-weaken c.args.at.moment a e (λ x. absurd x) aside.appends))
     (grown-weaken c.args.at.moment e f
     (λ r. inl (rose-from (g.N.Net.faults c.args.self.now.net) (g.N.Net.faults c.make_room.new.self.net) (g.N.Net.faults c.check_in.new.self.net) later r)) c.check_in.ensures.appends)
+
+pub hear_time-requires-clause-came : goal.hear_time-requires-clause-came
+hear_time-requires-clause-came g c = λ tells. rw (c.write_end.ensures.net) (c.requires.came tells)

@@ -1,4 +1,4 @@
-use Rattle.std.proofs.Common.{◌≡◌, ◌+◌, ◌++◌, Bool, length, None, Some, refl, sym, ap, ◌∙◌, subst, arith}
+use Rattle.std.proofs.Common.{◌≡◌, ◌+◌, ◌++◌, Bool, length, None, Some, refl, sym, ap, ◌∙◌, subst, arith, true}
 use Rattle.std.specs.Prelude.{drop, slice_get}
 use Rattle.std.proofs.lemmas.List.{length-map}
 use Rattle.std.proofs.lemmas.Option.{slice_get_within}
@@ -19,6 +19,10 @@ use Rattle.desk_trail.specs.Topologies.{asks_of, offered_after}
 use Rattle.desk_trail.specs.Written.{IsAtLeast, an_entry}
 use Rattle.legal_trail.specs.Recorded.{Recorded}
 use Rattle.desk_core.specs.Kept.{MayBegin}
+use Rattle.wired_trail.specs.Wired.{says_no_dial}
+use Rattle.desk_core.specs.Hearing.{IsNoReply}
+use Rattle.wired_trail.specs.Hearing.{HasUntoldDial}
+use Rattle.desk_core.proofs.HeardLemmas.{other-offers}
 use Rattle.desk_core.proofs.AppendsLemmas.{Appends-adds, Appends-quiet, Appends-refl, Appends-room, Appends-trans, AreLonger-refl, kept-by_end}
 use Rattle.desk_core.proofs.CheckLemmas.{IsKept-ended, IsOwedBy-broken, StandsAt-undialled, all_same, begins-left, none_kept}
 use Rattle.desk_core.proofs.DropLemmas.{read-there}
@@ -53,8 +57,8 @@ index-requires-2 g c =
     let within = slice_get_within c.self.inside.servers.items c.args.host due.0 there in
     omega (arith, c.self.inside.servers.ok)
 
-pub append-requires-clause-stands : goal.append-requires-clause-stands
-append-requires-clause-stands g c =
+pub tell_undialled-requires-clause-stands : goal.tell_undialled-requires-clause-stands
+tell_undialled-requires-clause-stands g c =
     let ready = rw (← c.self.view_is) at c.requires.begins.1 in
     let rest = c.requires.begins.0 in
     let due = rw (← c.self.view_is) at c.requires.due in
@@ -121,15 +125,15 @@ invariant_of-self-2 g c =
     let read : c.index-2.result.now ≡ due.0 = read-there c.self.inside.servers.items c.args.host due.0 c.index-2.result.now there c.index-2.ensures in
     let known : c.is_known-known.result ≡ stands_known c.self.inside.topology.topology due.0.address =
     c.is_known-known.ensures ∙ ap (stands_known c.self.inside.topology.topology) (c.host-2.ensures.address ∙ ap (λ (s : ServerState). s.address) read) in
-    let adds = c.append.ensures.adds (fact.CheckEnded c.args.host c.in_ok-end.end.how) refl in
+    let adds = c.tell_undialled.ensures.adds (fact.CheckEnded c.args.host c.in_ok-end.end.how) refl in
     let more : IsAtLeast (record { names = 0; events = 0; sessions = 0; requests = 0; steps = c.self.inside.closings + 1 }) r.room =
     subst (λ (m : Room). IsAtLeast m r.room) c.in_ok-room.ensures c.in_ok-reserve.ensures.room in
     let steps = more.steps in
     let used = adds.room_used.steps in
-    IsKept-ended r c.append.new.self.trail c.reserve.new.self.lines c.append.new.self.lines c.self.inside.topology.topology c.self.inside.servers.items c.self.inside.gossip
+    IsKept-ended r c.tell_undialled.new.self.trail c.reserve.new.self.lines c.tell_undialled.new.self.lines c.self.inside.topology.topology c.self.inside.servers.items c.self.inside.gossip
     c.self.inside.closings c.self.inside.last c.args.moment c.args.host c.self.inside.stopped c.in_ok-end.end.how c.is_known-known.result due.0 c.end_check.new.self
     (entry_of.CheckEnded c.args.host c.in_ok-end.end.how) adds there (λ n. due.2.1) (none_kept (ap (λ k. kept_stream k due.0.check_stream) how))
-    (all_same (ap (λ s. s.lines) c.append.ensures.same)) ready.now (omega arith) known
+    (all_same (ap (λ s. s.lines) c.tell_undialled.ensures.same)) ready.now (omega arith) known
     (c.end_check.ensures.ends ∙ ap (check_ends c.args.moment c.in_ok-end.end.how c.is_known-known.result) is) kept
 
 pub offer-requires-clause-writing : goal.offer-requires-clause-writing
@@ -147,7 +151,7 @@ offer-requires-clause-writing g c =
     let event : c.in_ok-end.end.event ≡ event_of.Broken due.0.address None =
     ap (λ e. e.event) c.in_ok-end.ensures ∙ ap (λ a. event_of.Broken a None) (c.host.ensures.address ∙ ap (λ (s : ServerState). s.address) read) in
     let o = IsOwedBy-broken k due.0 c.in_ok-end.end.event how event in
-    let adds = c.append.ensures.adds (fact.CheckEnded c.args.host k) refl in
+    let adds = c.tell_undialled.ensures.adds (fact.CheckEnded c.args.host k) refl in
     let more : IsAtLeast (record { names = 0; events = 0; sessions = 0; requests = 0; steps = c.self.inside.closings + 1 }) r.room =
     subst (λ (m : Room). IsAtLeast m r.room) c.in_ok-room.ensures c.in_ok-reserve.ensures.room in
     let steps = more.steps in
@@ -173,8 +177,8 @@ offer-requires-clause-count g c =
     let ready = rw (← c.self.view_is) at c.requires.begins.1 in
     let rest = c.requires.begins.0 in
     let h = c.self.invariant.leads ready.runs in
-    let adds = c.append.ensures.adds (fact.CheckEnded c.args.host c.in_ok-end.end.how) refl in
-    let count : length c.append.new.self.trail.lists.names ≡ length c.self.inside.servers.items =
+    let adds = c.tell_undialled.ensures.adds (fact.CheckEnded c.args.host c.in_ok-end.end.how) refl in
+    let count : length c.tell_undialled.new.self.trail.lists.names ≡ length c.self.inside.servers.items =
     ap (λ (l : Lists). length l.names) adds.lists_now ∙ ap (λ s. length s.trail.lists.names) c.reserve.ensures.same ∙ ap length h.names
     ∙ length-map c.self.inside.servers.items (λ (s : ServerState). s.address) in
     let numbers = h.numbers in
@@ -195,7 +199,7 @@ returns-clause-ok g c = λ rest begins.
     let event : c.in_ok-end.end.event ≡ event_of.Broken due.0.address None =
     ap (λ e. e.event) c.in_ok-end.ensures ∙ ap (λ a. event_of.Broken a None) (c.host.ensures.address ∙ ap (λ (s : ServerState). s.address) read) in
     let o = IsOwedBy-broken k due.0 c.in_ok-end.end.event how event in
-    let adds = c.append.ensures.adds (fact.CheckEnded c.args.host k) refl in
+    let adds = c.tell_undialled.ensures.adds (fact.CheckEnded c.args.host k) refl in
     let more : IsAtLeast (record { names = 0; events = 0; sessions = 0; requests = 0; steps = c.self.inside.closings + 1 }) r.room =
     subst (λ (m : Room). IsAtLeast m r.room) c.in_ok-room.ensures c.in_ok-reserve.ensures.room in
     let steps = more.steps in
@@ -216,13 +220,13 @@ pub returns-clause-appends : goal.returns-clause-appends
 returns-clause-appends g c =
     let old : Recorded = c.self.inside.wired.trail in
     let r : Recorded = c.reserve.new.self.trail in
-    let between : Recorded = c.append.new.self.trail in
+    let between : Recorded = c.tell_undialled.new.self.trail in
     let k : CheckHow = c.in_ok-end.end.how in
     rw (← c.self.view_is)
     (Appends-trans c.args.moment old r c.offer.new.self.trail (Appends-room c.args.moment old r r.room (ap (λ s. s.trail) c.reserve.ensures.same))
     (Appends-trans c.args.moment r between c.offer.new.self.trail
     (Appends-adds an_entry r.lists c.args.moment (entry_of.CheckEnded c.args.host k) (fact.CheckEnded c.args.host k) r between (AreLonger-refl r.lists)
-    (c.append.ensures.adds (fact.CheckEnded c.args.host k) refl) (λ e. tt) (kept-by_end r.client c.args.moment r.point.state c.args.host k))
+    (c.tell_undialled.ensures.adds (fact.CheckEnded c.args.host k) refl) (λ e. tt) (kept-by_end r.client c.args.moment r.point.state c.args.host k))
     (Appends-quiet c.args.moment between c.offer.new.self.trail c.offer.ensures.appends)))
 
 pub returns-clause-rests : goal.returns-clause-rests
@@ -236,13 +240,29 @@ returns-clause-rests g c =
     let how : k ≡ how_of.NoDial = ap (λ e. e.how) c.in_ok-end.ensures in
     let point : r.point ≡ c.self.inside.wired.trail.point = ap (λ s. s.trail.point) c.reserve.ensures.same in
     let there : slice_get c.self.inside.servers.items c.args.host ≡ Some due.0 = ap (λ (s : ClientState). slice_get s.servers c.args.host) (sym h.state) ∙ due.1 in
-    let between : ClientState = c.append.new.self.trail.point.state in
+    let between : ClientState = c.tell_undialled.new.self.trail.point.state in
     let known : Bool = stands_known r.point.state.topology due.0.address in
     let behind : slice_get between.servers c.args.host ≡ Some (check_ends c.args.moment k known due.0) =
-    at-ended r c.append.new.self.trail c.args.moment c.args.host k due.0 (entry_of.CheckEnded c.args.host k) (c.append.ensures.adds (fact.CheckEnded c.args.host k) refl)
+    at-ended r c.tell_undialled.new.self.trail c.args.moment c.args.host k due.0 (entry_of.CheckEnded c.args.host k) (c.tell_undialled.ensures.adds (fact.CheckEnded c.args.host k) refl)
     (ap (λ (p : Point). slice_get p.state.servers c.args.host) point ∙ due.1) in
     let plain : asks_of c.in_ok-end.end.event ≡ None = ap (λ e. asks_of e.event) c.in_ok-end.ensures in
     OnOk-by c.offer.result _ _ (λ kept.
     IsAtRest-ended (offered_after c.args.moment c.in_ok-end.end.event between) c.offer.new.self.trail.point.state c.args.moment c.args.host k known due.0
     (ap (λ ss. slice_get ss c.args.host) (offered-servers c.args.moment c.in_ok-end.end.event between plain) ∙ behind) (h.kept c.args.host due.0 there).paced
     (ap (λ j. is_again (end_of j) known) how) kept) c.offer.ensures.checks
+
+pub tell_undialled-requires-clause-undialled : goal.tell_undialled-requires-clause-undialled
+tell_undialled-requires-clause-undialled g c = λ told is.
+    let how : c.in_ok-end.end.how ≡ how_of.NoDial = ap (λ e. e.how) c.in_ok-end.ensures in
+    let same : fact.CheckEnded c.args.host c.in_ok-end.end.how ≡ told = cc in
+    subst (λ t. says_no_dial t ≡ true) same (ap (λ h. says_no_dial (fact.CheckEnded c.args.host h)) how)
+
+pub tell_undialled-requires-clause-untold : goal.tell_undialled-requires-clause-untold
+tell_undialled-requires-clause-untold g c = λ tells.
+    let untold = rw (← c.self.view_is) at (c.requires.untold tells) in
+    let net = subst (λ h. HasUntoldDial h c.self.inside.wired.trail) (sym (ap (λ s. g.N.Net.history s.net) c.reserve.ensures.same)) untold in
+    subst (λ (t : Recorded). HasUntoldDial (g.N.Net.history c.reserve.new.self.net) t) (sym (ap (λ s. s.trail) c.reserve.ensures.same)) net
+
+pub offer-requires-clause-heard : goal.offer-requires-clause-heard
+offer-requires-clause-heard g c = λ tells.
+    other-offers (g.N.Net.history c.tell_undialled.new.self.net) c.tell_undialled.new.self.trail c.in_ok-end.end.event (subst IsNoReply (sym (ap (λ e. e.event) c.in_ok-end.ensures)) tt)

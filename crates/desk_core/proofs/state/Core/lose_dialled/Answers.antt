@@ -126,3 +126,13 @@ returns-clause-appends g c =
     rw (← c.self.view_is)
     (IsPast-lost at (record { conn = c.args.at.dialled.conn; why = c.args.why; news = c.take_news-news.result }) c.self.inside.wired.trail c.lose.new.wired.trail c.lose.new.server
     c.lose.new.running c.lose.ensures.lost).comes.appends
+
+pub lose-requires-clause-heard : goal.lose-requires-clause-heard
+lose-requires-clause-heard g c = λ tells.
+    let heard = rw (← c.self.view_is) at (c.requires.heard tells) in
+    heard
+
+pub lose-requires-clause-came : goal.lose-requires-clause-came
+lose-requires-clause-came g c = λ tells.
+    let came = rw (← c.self.view_is) at (c.requires.came tells) in
+    c.take_news-news.ensures.came (g.N.Net.history c.self.inside.wired.net) came

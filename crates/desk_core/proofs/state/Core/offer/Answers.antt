@@ -18,6 +18,10 @@ use Rattle.desk_trail.specs.Written.{an_event}
 use Rattle.desk_core.specs.Answered.{added_by, removed_by}
 use Rattle.desk_core.specs.Follows.{entries_for, owed_by}
 use Rattle.desk_core.specs.Rests.{KeepsChecks}
+use Rattle.net_link.specs.Seen.{seen}
+use Rattle.desk_trail.specs.Streams.{of_offered}
+use Rattle.wired_trail.specs.Hearing.{WasHeard, told_of}
+use Rattle.wired_trail.proofs.HeardLemmas.{heard-same}
 use Rattle.desk_core.proofs.ApartLemmas.{AreApart-change, accepted-stands}
 use Rattle.desk_core.proofs.AppendsLemmas.{Appends-adds, Appends-refl, Appends-room, Appends-trans, AreLonger-events, kept-offered}
 use Rattle.desk_core.proofs.KeptLemmas.{IsKept-room}
@@ -219,3 +223,13 @@ returns-in_default-taken-clause-unknown g c = λ host is.
     ap (λ (p : Point). p.state) c.offer-2.ensures.adds.point_now ∙ ap (offered_after c.args.moment c.args.event) (sym states) in
     ap (λ (w : ClientState). stands_known w.topology host) now
     ∙ broken-unknown c.args.self.now.trail.point.state c.args.event host is c.nothing_else_stands.ensures
+
+pub offer-requires-2-clause-heard : goal.offer-requires-2-clause-heard
+offer-requires-2-clause-heard g c = λ tells.
+    let r = c.self.inside.wired.trail in
+    let x = c.reserve.new.self.trail in
+    let same = c.reserve.ensures.same in
+    let heard = rw (← c.self.view_is) at (c.requires.heard tells) in
+    heard-same (g.N.Net.history c.self.inside.wired.net) (g.N.Net.history c.reserve.new.self.net) r x (of_offered x.point.state c.args.event)
+    (λ s. ap (λ w. seen s (g.N.Net.history w.net)) same) (λ s. ap (λ w. told_of w.trail s) same)
+    (subst (λ (p : Point). WasHeard (g.N.Net.history c.self.inside.wired.net) r (of_offered p.state c.args.event)) (sym (ap (λ w. w.trail.point) same)) heard)

@@ -1,10 +1,12 @@
-use Rattle.std.proofs.Common.{◌≡◌, ◌+◌, Some, length, ap, sym, ◌∙◌, subst, arith}
+use Rattle.std.proofs.Common.{◌≡◌, ◌+◌, Some, length, ap, sym, ◌∙◌, subst, arith, None}
 use Rattle.desk_trail.specs.declared.entry.Entry.TheVariants as entry_of
 use Rattle.desk_trail.specs.declared.room.Room.{Room}
 use Rattle.desk_trail.specs.Legal.{Point}
 use Rattle.desk_trail.specs.States.{ClientState}
 use Rattle.desk_trail.specs.Written.{IsAtLeast, a_request}
 use Rattle.wired_trail.specs.Lines.{line_at}
+use Rattle.legal_trail.specs.Recorded.{Recorded}
+use Rattle.wired_trail.specs.Hearing.{told_of}
 use Rattle.desk_core.proofs.AppendsLemmas.{grown-same}
 use Rattle.desk_core.proofs.AttemptLemmas.{IsKept-entry}
 use Rattle.desk_core.proofs.BesideLemmas.{GoesBeside-asked, IsOfCommand, KeepsCheckLines-conn}
@@ -41,3 +43,8 @@ invariant_of-self-2 g c =
     (subst IsOfCommand (sym c.requires.request.is_for) tt) adds)
     (ap (λ (w : ClientState). w.servers) c.send.ensures.moved) (ap (λ (p : Point). p.time) adds.point_now) (ap (λ (p : Point). p.moment) adds.point_now) ready.now used (omega arith)
     (KeepsCheckLines-conn c.args.made.request.stream c.args.at.lent.host c.args.at.lent.conn c.reserve.new.self.lines c.send.new.wired.lines on.line line on.is_for c.send.ensures.others)
+
+pub send-requires-clause-free_stream : goal.send-requires-clause-free_stream
+send-requires-clause-free_stream g c = λ tells.
+    let free = rw (← c.self.view_is) at (c.in_ok-check_free.ensures.free tells) in
+    subst (λ (t : Recorded). (told_of t c.args.made.request.stream).last ≡ None) (sym (ap (λ s. s.trail) c.reserve.ensures.same)) free

@@ -1,5 +1,8 @@
-use Rattle.std.proofs.Common.{◌+◌, ◌-◌, arith}
+use Rattle.std.proofs.Common.{◌+◌, ◌-◌, arith, subst, sym}
 use Rattle.cmd_step.specs.declared.place.At.{At}
+use Rattle.desk_trail.specs.Facts as fact
+use Rattle.wired_trail.specs.Hearing.{TellsHeard}
+use Rattle.desk_core.proofs.HeardLemmas.{greets-on}
 use Rattle.desk_core.proofs.BesideLemmas.{KeepsCheckLines-closes_conn}
 use Rattle.desk_core.proofs.GreetingLemmas.{IsKept-past, IsPast, IsPast-settled, IsStage, IsStage-by, closing-past}
 use Rattle.desk_core.proofs.state.Core.settle_greeted.Goals as goal
@@ -44,7 +47,7 @@ overflow_add-self g c =
     IsStage-by old c.self.inside.wired.lines c.self.inside.topology.topology items c.self.inside.gossip c.self.inside.last c.args.at.op c.args.at.moment c.args.at.dialled c.args.operation.now
     c.operation.inside.running s l work.ready.paid work.ready.now work.there dialled c.operation.view_is c.index_mut-server.ensures.value in
     let past : IsPast at c.take_news-news.result old new t c.settle.new.running =
-    IsPast-settled at (record { conn = c.args.at.dialled.conn; news = c.take_news-news.result }) c.settle.result old new t c.settle.new.running c.settle.ensures.settles in
+    IsPast-settled at (record { conn = c.args.at.dialled.conn; stream = c.args.at.dialled.stream; news = c.take_news-news.result }) c.settle.result old new t c.settle.new.running c.settle.ensures.settles in
     let less = closing-past at c.take_news-news.result old new c.self.inside.wired.lines c.self.inside.topology.topology items c.self.inside.gossip c.args.at.dialled.conn c.self.inside.last s t
     c.operation.inside.running c.settle.new.running l stage past in
     omega (arith, less, c.closing_of-before.ensures, c.closing_of-behind.ensures, stage.within, c.self.invariant.counted)
@@ -65,7 +68,7 @@ invariant_of-self g c =
     IsStage-by old c.self.inside.wired.lines c.self.inside.topology.topology items c.self.inside.gossip c.self.inside.last c.args.at.op c.args.at.moment c.args.at.dialled c.args.operation.now
     c.operation.inside.running s l work.ready.paid work.ready.now work.there dialled c.operation.view_is c.index_mut-server.ensures.value in
     let past : IsPast at c.take_news-news.result old new t c.settle.new.running =
-    IsPast-settled at (record { conn = c.args.at.dialled.conn; news = c.take_news-news.result }) c.settle.result old new t c.settle.new.running c.settle.ensures.settles in
+    IsPast-settled at (record { conn = c.args.at.dialled.conn; stream = c.args.at.dialled.stream; news = c.take_news-news.result }) c.settle.result old new t c.settle.new.running c.settle.ensures.settles in
     let within = stage.within in
     let counted = c.self.invariant.counted in
     let before = c.closing_of-before.ensures in
@@ -79,5 +82,21 @@ pub returns-clause-appends : goal.returns-clause-appends
 returns-clause-appends g c =
     let at : At = record { op = c.args.at.op; host = c.args.at.dialled.host; moment = c.args.at.moment } in
     rw (← c.self.view_is)
-    (IsPast-settled at (record { conn = c.args.at.dialled.conn; news = c.take_news-news.result }) c.settle.result c.self.inside.wired.trail c.settle.new.wired.trail c.settle.new.server
+    (IsPast-settled at (record { conn = c.args.at.dialled.conn; stream = c.args.at.dialled.stream; news = c.take_news-news.result }) c.settle.result c.self.inside.wired.trail c.settle.new.wired.trail c.settle.new.server
     c.settle.new.running c.settle.ensures.settles).comes.appends
+
+pub settle-requires-clause-heard : goal.settle-requires-clause-heard
+settle-requires-clause-heard g c = λ tells stale.
+    let settled = fact.Settled c.args.at.op c.args.at.dialled.host c.args.at.dialled.conn stale in
+    subst (λ d. TellsHeard (g.N.Net.history d.net) d.trail c.args.at.moment settled) (sym c.self.view_is) (c.requires.heard tells stale)
+
+pub settle-requires-clause-came : goal.settle-requires-clause-came
+settle-requires-clause-came g c = λ tells.
+    let came = rw (← c.self.view_is) at (c.requires.came tells) in
+    c.take_news-news.ensures.came (g.N.Net.history c.self.inside.wired.net) came
+
+pub settle-requires-clause-on : goal.settle-requires-clause-on
+settle-requires-clause-on g c =
+    let there = rw (← c.self.view_is) at c.requires.work.there in
+    let dialled = rw (← c.self.view_is) at c.requires.dialled in
+    (greets-on c.self.inside.wired.trail.point.state c.args.at.op c.args.operation.now c.args.at.dialled there dialled).of_conn

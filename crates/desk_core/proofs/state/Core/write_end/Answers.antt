@@ -1,4 +1,4 @@
-use Rattle.std.proofs.Common.{◌≡◌, ◌+◌, Some, refl, ap, ◌∙◌, subst, arith}
+use Rattle.std.proofs.Common.{◌≡◌, ◌+◌, Some, refl, ap, ◌∙◌, subst, arith, sym}
 use Rattle.std.specs.Prelude.{slice_get}
 use Rattle.desk_trail.specs.declared.entry.Entry.TheVariants as entry_of
 use Rattle.desk_trail.specs.declared.room.Room.{Room}
@@ -6,6 +6,11 @@ use Rattle.desk_trail.specs.Facts as fact
 use Rattle.desk_trail.specs.Legal.{Point, point_after}
 use Rattle.desk_trail.specs.States.{ClientState}
 use Rattle.desk_trail.specs.Written.{IsAtLeast, an_entry}
+use Rattle.legal_trail.specs.Recorded.{Recorded}
+use Rattle.net_link.specs.Seen.{seen}
+use Rattle.desk_trail.specs.Streams.{mention_of}
+use Rattle.wired_trail.specs.Hearing.{WasHeard, told_of}
+use Rattle.wired_trail.proofs.HeardLemmas.{heard-same}
 use Rattle.desk_core.proofs.AppendsLemmas.{grown-same}
 use Rattle.desk_core.proofs.AttemptLemmas.{IsKept-entry, owed-ended}
 use Rattle.desk_core.proofs.BesideLemmas.{GoesBeside-entry, KeepsCheckLines-same}
@@ -69,3 +74,20 @@ returns-clause-writing g c =
       now = ready.now;
       space = omega arith;
     }
+
+pub end_attempt-requires-clause-on : goal.end_attempt-requires-clause-on
+end_attempt-requires-clause-on g c =
+    let on = rw (← c.self.view_is) at c.requires.on in
+    rw (c.reserve.ensures.same) on
+
+pub end_attempt-requires-clause-heard : goal.end_attempt-requires-clause-heard
+end_attempt-requires-clause-heard g c = λ tells.
+    let r = c.self.inside.wired.trail in
+    let x = c.reserve.new.self.trail in
+    let same = c.reserve.ensures.same in
+    let heard = rw (← c.self.view_is) at (c.requires.heard tells) in
+    heard-same (g.N.Net.history c.self.inside.wired.net) (g.N.Net.history c.reserve.new.self.net) r x
+    (mention_of x.client x.point.state c.args.at.moment (fact.Ended c.args.at.op c.args.end))
+    (λ s. ap (λ w. seen s (g.N.Net.history w.net)) same) (λ s. ap (λ w. told_of w.trail s) same)
+    (subst (λ (t : Recorded). WasHeard (g.N.Net.history c.self.inside.wired.net) r (mention_of t.client t.point.state c.args.at.moment (fact.Ended c.args.at.op c.args.end)))
+    (sym (ap (λ w. w.trail) same)) heard)

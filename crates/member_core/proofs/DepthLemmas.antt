@@ -120,7 +120,15 @@ inside-election_fields (Some number) = omega (arith, depth_inside-Oid (election_
 inside-election_fields None = refl
 
 inside-limit_fields : inside limit_fields ≡ 0
-inside-limit_fields = omega (arith, depth_inside-Int32 (pos 0), depth_inside-Int32 (pos 21), depth_inside-Int32 (pos 30))
+inside-limit_fields = omega (
+  arith,
+  depth_inside-Int32 (pos 16777216),
+  depth_inside-Int32 (pos 48000000),
+  depth_inside-Int32 (pos 100000),
+  depth_inside-Int32 (pos 0),
+  depth_inside-Int32 (pos 21),
+  depth_inside-Int32 (pos 30),
+)
 
 inside-last : (m : MemberState) → inside ((codes "topologyVersion", Doc (topology_version m)) ∷ ok ∷ []) ≤ 1
 inside-last m = omega (

@@ -1,5 +1,5 @@
 -- Answers are never too long.
-use Rattle.std.proofs.Common.{◌≡◌, ℕ, suc, zero, ℤ, ◌+◌, ◌^◌, ◌<◌, ◌≤◌, pos, Bool, true, false, not, None, Some, Option, List, [], ◌∷◌, ◌++◌, length, map, decimal, codes, refl, ap, ◌∙◌, arith}
+use Rattle.std.proofs.Common.{◌≡◌, ℕ, suc, zero, ℤ, ◌+◌, ◌^◌, ◌<◌, ◌≤◌, pos, Bool, true, false, not, None, Some, Option, List, [], ◌∷◌, ◌++◌, length, drop, map, decimal, codes, refl, ap, ◌∙◌, arith}
 use Rattle.std.proofs.lemmas.Fmt.{length-decimal-le}
 use Rattle.std.proofs.lemmas.List.{length-append}
 use Rattle.std.proofs.lemmas.List.Sums.{sum_by-cons}
@@ -189,12 +189,18 @@ length-election_fields : (election : Option ℕ) → fields_length (election_fie
 length-election_fields (Some number) = omega (arith, fields_length-∷ (codes "electionId") (value.Oid (election_id number)) [], length-Oid (election_id number))
 length-election_fields None = omega arith
 
-length-limit_fields : fields_length limit_fields ≡ 74
+length-limit_fields : fields_length limit_fields ≡ 145
 length-limit_fields = omega (
   arith,
-  fields_length-∷ (codes "minWireVersion") (value.Int32 (pos 0)) ((codes "maxWireVersion", value.Int32 (pos 21)) ∷ (codes "logicalSessionTimeoutMinutes", value.Int32 (pos 30)) ∷ []),
-  fields_length-∷ (codes "maxWireVersion") (value.Int32 (pos 21)) ((codes "logicalSessionTimeoutMinutes", value.Int32 (pos 30)) ∷ []),
+  fields_length-∷ (codes "maxBsonObjectSize") (value.Int32 (pos 16777216)) (drop 1 limit_fields),
+  fields_length-∷ (codes "maxMessageSizeBytes") (value.Int32 (pos 48000000)) (drop 2 limit_fields),
+  fields_length-∷ (codes "maxWriteBatchSize") (value.Int32 (pos 100000)) (drop 3 limit_fields),
+  fields_length-∷ (codes "minWireVersion") (value.Int32 (pos 0)) (drop 4 limit_fields),
+  fields_length-∷ (codes "maxWireVersion") (value.Int32 (pos 21)) (drop 5 limit_fields),
   fields_length-∷ (codes "logicalSessionTimeoutMinutes") (value.Int32 (pos 30)) [],
+  length-Int32 (pos 16777216),
+  length-Int32 (pos 48000000),
+  length-Int32 (pos 100000),
   length-Int32 (pos 0),
   length-Int32 (pos 21),
   length-Int32 (pos 30),
@@ -219,7 +225,7 @@ length-parts a b c d e f =
 
 -- Each of the hosts, the host itself and the primary is within the bound of the hosts.
 pub length-hello_reply : (m : MemberState) → sum_by host_size m.hosts ≤ 15000000
-    → length (spelled (hello_reply m)) ≤ length m.set + sum_by host_size m.hosts + sum_by host_size m.hosts + sum_by host_size m.hosts + 274
+    → length (spelled (hello_reply m)) ≤ length m.set + sum_by host_size m.hosts + sum_by host_size m.hosts + sum_by host_size m.hosts + 345
 length-hello_reply m few =
     let parts = length-parts (role_fields m) (set_fields m) (own_fields m) (election_fields m.election) limit_fields ((codes "topologyVersion", Doc (topology_version m)) ∷ ok ∷ []) in
     let whole = length-spelled (hello_reply m) ∙ ap (λ n. n + 5) parts in

@@ -118,10 +118,14 @@ abbrev pub election_fields : Option ℕ → List Field
 election_fields (Some number) = (codes "electionId", value.Oid (election_id number)) ∷ []
 election_fields None = []
 
--- Wire versions 0 to 21, and sessions of 30 minutes.
+-- Documents of 16 MiB, messages of 48,000,000 bytes, 100,000 writes in a command, wire versions 0 to 21, and sessions of 30
+-- minutes.
 abbrev pub limit_fields : List Field
 limit_fields =
-    (codes "minWireVersion", value.Int32 (pos 0))
+    (codes "maxBsonObjectSize", value.Int32 (pos 16777216))
+    ∷ (codes "maxMessageSizeBytes", value.Int32 (pos 48000000))
+    ∷ (codes "maxWriteBatchSize", value.Int32 (pos 100000))
+    ∷ (codes "minWireVersion", value.Int32 (pos 0))
     ∷ (codes "maxWireVersion", value.Int32 (pos 21))
     ∷ (codes "logicalSessionTimeoutMinutes", value.Int32 (pos 30))
     ∷ []

@@ -101,6 +101,9 @@ fn put_election(alloc: Global, hello: &mut Document, election: Option<u64>) -> R
 fn put_limits(alloc: Global, hello: &mut Document) -> Result<(), Memory>
     ensures { OnOk result (hello.new.elements ≡ hello.old.elements ++ limit_fields) }
 {
+    hello.put(alloc, "maxBsonObjectSize", Value::Int32(16_777_216))?;
+    hello.put(alloc, "maxMessageSizeBytes", Value::Int32(48_000_000))?;
+    hello.put(alloc, "maxWriteBatchSize", Value::Int32(100_000))?;
     hello.put(alloc, "minWireVersion", Value::Int32(0))?;
     hello.put(alloc, "maxWireVersion", Value::Int32(21))?;
     hello.put(alloc, "logicalSessionTimeoutMinutes", Value::Int32(30))?;

@@ -31,9 +31,6 @@ impl Client {
     pub fn open(alloc: Global, uri: &str) -> Result<Client, Fault> {
         let settings = settings_of(alloc, uri)?;
         let hosts = settings.hosts.as_slice();
-        if !Topology::may_start(alloc, hosts, settings.direct)? {
-            return Err(Fault::told(alloc, "no topology starts so"));
-        }
         let name = settings.set_name.as_ref().map(|name| name.as_str());
         let topology = Topology::start(alloc, hosts, name, settings.direct)?;
         Client::of_topology(alloc, topology, hosts)

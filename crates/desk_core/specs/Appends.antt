@@ -26,6 +26,11 @@ tells_fault e = false
 abbrev pub tell_fault : List Step → Bool
 tell_fault steps = list_any (λ (s : Step). tells_fault s.entry) steps
 
+-- Steps of one moment, none of which tells a failed call of the net.
+pub record AreQuiet (moment : ℕ) (steps : List Step) : Type 0 where
+  pub moments : All (λ (s : Step). s.moment ≡ moment) steps
+  pub faultless : tell_fault steps ≡ false
+
 -- A trail is only appended to: what is appended has that moment, and tells a failed call of the net only where one failed.
 pub record Appends (failed : Type 0) (moment : ℕ) (old new : Recorded) : Type 0 where
   pub client : new.client ≡ old.client

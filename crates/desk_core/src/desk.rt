@@ -4,7 +4,7 @@ ghost use Rattle.desk_trail.specs.Facts.{facts_of};
 ghost use Rattle.desk_trail.specs.Legal.{IsComplete, IsLegal, point_behind};
 ghost use Rattle.desk_trail.specs.Written.{lists_of};
 ghost use Rattle.legal_trail.specs.Recorded.{Recorded};
-ghost use Rattle.desk_core.specs.Appends.{Appends};
+ghost use Rattle.desk_core.specs.Appends.{Appends, AreQuiet};
 ghost use Rattle.desk_core.specs.Due.{IsNext};
 ghost use Rattle.desk_core.specs.Ending.{ArePoolsShut};
 ghost use Rattle.desk_core.specs.Sights.{MeansCheck};
@@ -84,6 +84,7 @@ impl<N: Net, P: Picker> Desk<N, P> {
         requires levels { AreShallow commands }
         ensures client { IfOk result (λ d. d.trail.client ≡ record { settings = settings; commands = commands; began = min moment (2 ^ 62) }) }
         ensures now { IfOk result (λ d. d.last ≡ min moment (2 ^ 62)) }
+        ensures quiet { IfOk result (λ d. AreQuiet (min moment (2 ^ 62)) d.trail.steps) }
         ensures runs { IfOk result (λ d. d.is_stopped ≡ false) }
         ensures net { IfOk result (λ d. d.net ≡ net) }
         ensures picker { IfOk result (λ d. d.picker ≡ picker) }
@@ -114,13 +115,14 @@ impl<N: Net, P: Picker> Desk<N, P> {
         self.core.is_stopped()
     }
 
-    /// All that it did so far, entry by entry: a legal trail, and a complete one unless the desk stopped. Where the net tells, it is
-    /// what that told.
+    /// All that it did so far, entry by entry: a legal trail, and a complete one unless the desk stopped. It leads to the point.
+    /// Where the net tells, it is what that told.
     pub fn steps(&self) -> &[Step]
         ensures value { result.now ≡ self.now.trail.steps }
         ensures wired { N.tells → IsWired self.now.trail.client (N.history self.now.net) (facts_of self.now.trail.lists self.now.trail.steps) }
         ensures legal { IsLegal self.now.trail.client self.now.trail.lists self.now.trail.steps }
         ensures complete { self.now.is_stopped ≡ false → IsComplete self.now.trail.client self.now.trail.lists self.now.trail.steps }
+        ensures point { self.now.trail.point ≡ point_behind self.now.trail.client (facts_of self.now.trail.lists self.now.trail.steps) }
     {
         self.core.wired.steps()
     }

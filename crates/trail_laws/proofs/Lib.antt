@@ -1,3 +1,4 @@
+mod AnswerLemmas
 mod ListLemmas
 mod OwedLemmas
 mod ServerLemmas

@@ -1,3 +1,4 @@
 pub mod Numbers
 pub mod Waiting
 pub mod Holding
+pub mod Answers

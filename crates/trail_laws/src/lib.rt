@@ -3,9 +3,11 @@
 //! - [`hosts`]: each host of the topology has its number (SDAM, Updating the TopologyDescription).
 //! - [`commands`]: what a command waits for, and since when (Server Selection; CMAP, Checking Out a Connection).
 //! - [`sessions`]: how the sessions of commands are held (Driver Sessions; Retryable Writes).
+//! - [`answers`]: which commands go on (Retryable Writes).
 //! - [`ending`]: the end of a client (Driver Sessions, endSessions).
 #![tactic(auto)]
 
+pub mod answers;
 pub mod commands;
 pub mod ending;
 pub mod hosts;

@@ -1,0 +1,2 @@
+mod AnsweredLemmas
+mod TallyLemmas

@@ -72,7 +72,7 @@ fn a_set_at_its_bound_answers_hello(rt: HostRuntime) -> Result<(), Fail> {
     let mut member = member(rt.alloc(), set.as_str())?;
     let request = hello(rt.alloc())?;
     let answered = member.answer(rt.alloc(), &request, 2, 0, 0, true)?;
-    assert_eq!(rt; answered.bytes.len(), 15_000_219);
+    assert_eq!(rt; answered.bytes.len(), 15_000_290);
     Ok(())
 }
 

@@ -13,6 +13,7 @@ ghost use Rattle.desk_core.specs.Nexts.{IsNextIn};
 ghost use Rattle.desk_core.specs.State.{AreShallow, now_of};
 ghost use Rattle.desk_core.specs.Steps.{MeansStep};
 ghost use Rattle.wired_trail.specs.Wired.{IsWired};
+ghost use Rattle.write_effects.specs.Each.{EachTakesEffectOnce};
 
 use crate::counts::InFlight;
 use crate::lanes::next_in;
@@ -33,6 +34,7 @@ use std::alloc::Global;
 use std::marker::Model;
 use topo_rules::TopoEvent;
 use watch_step::LAST_MOMENT;
+use write_effects::once::each_write_takes_effect_once;
 
 /// A client's core. Each call is one step, which waits for nothing: it asks the net, and appends to the trail what came of it.
 ///
@@ -220,9 +222,11 @@ impl<N: Net, P: Picker> Desk<N, P> {
 
     /// Ends it: farewells are asked of the sessions that were given back (Driver Sessions, endSessions), as far as there is memory
     /// for them; then its pools are closed. A desk that stopped appends nothing to its trail.
-    /// Where the net tells, the trail is what that told.
+    /// Where the net tells, the trail is what that told; and where that is a history of honest members, each command took effect at
+    /// most once, and a write that was answered ok exactly once.
     pub fn finish(self, alloc: Global, moment: u64) -> Finished<N, P>
         ensures wired { N.tells → IsWired self.trail.client (N.history result.net) (facts_of (lists_of result.trail) result.trail.steps) }
+        ensures once { N.tells → EachTakesEffectOnce self.trail.client (facts_of (lists_of result.trail) result.trail.steps) (N.history result.net) }
         ensures legal { IsLegal self.trail.client (lists_of result.trail) result.trail.steps }
         ensures complete { self.is_stopped ≡ false → IsComplete self.trail.client (lists_of result.trail) result.trail.steps }
         ensures shut { self.is_stopped ≡ false
@@ -235,6 +239,7 @@ impl<N: Net, P: Picker> Desk<N, P> {
         ensures stopped { result.stopped ≡ self.is_stopped }
         ensures faults { N.faults self.net ≤ N.faults result.net }
     {
+        each_write_takes_effect_once();
         let Desk {
             mut core,
             parts,

@@ -1,5 +1,5 @@
 -- Which sessions a client's commands have (Driver Sessions; Retryable Writes).
-use Rattle.std.specs.Prelude.{◌≡◌, ℕ, ℤ, Bool, true, false, not, ◌&&◌, Option, None, Some, is_some, slice_get, if◌then◌else◌}
+use Rattle.std.specs.Prelude.{◌≡◌, ℕ, ℤ, Bool, true, false, not, ◌&&◌, Option, None, Some, is_some, length, slice_get, if◌then◌else◌}
 use Rattle.std.specs.Option.{option_map, option_and_then}
 use Rattle.bson_doc.specs.declared.ids.Lsid.{Lsid}
 use Rattle.sess_book.specs.Sessions.{Sessions}
@@ -53,14 +53,14 @@ abbrev pub sessions_by : ℕ → Option SessEntry → Sessions → Sessions
 sessions_by moment None s = s
 sessions_by moment (Some e) s = session.after s moment e
 
--- The id that stands at a place.
+-- The id that stands at a place: a new one has the sixteen bytes of a UUID (Driver Sessions, lsid).
 abbrev pub IsIdAt : Sessions → ℕ → Lsid → Bool → Type 0
-IsIdAt s place lsid true = Unit {0}
+IsIdAt s place lsid true = length lsid.0 ≡ 16
 IsIdAt s place lsid false = (x : Session) × (slice_get s.made place ≡ Some x) × (x.lsid ≡ lsid)
 
 -- ---- When they may stand
 
--- A lease: of a command at its choice; a session that was there has its id.
+-- A lease: of a command at its choice; a new session's id is a UUID, and a session that was there has its id.
 pub record IsLease (w : ClientState) (moment op place : ℕ) (lsid : Lsid) (fresh : Bool) : Type 0 where
   pub running : CommandState
   pub there : slice_get w.commands op ≡ Some running

@@ -14,7 +14,7 @@ use Rattle.read_pref.specs.declared.mode.Mode.TheVariants as mode
 use Rattle.topo_rules.specs.declared.kind.TopoKind.{TopoKind}
 use Rattle.topo_rules.specs.declared.kind.TopoKind.TheVariants as topo
 use Rattle.topo_rules.specs.Readings.{session_minutes_of}
-use Rattle.msg_wire.specs.Framing.{frame}
+use Rattle.msg_wire.specs.Framing.{Framed, frame, message_of}
 use Rattle.cmd_build.specs.Commands.{command_document}
 use Rattle.cmd_build.specs.Handshakes.{farewell_document}
 use Rattle.cmd_build.specs.Sizes.{Excess, excess}
@@ -118,12 +118,17 @@ document_sent client w time op s = command_document s.command client.settings.db
 abbrev pub excess_of : (client : Client) (w : ClientState) (time : Option ℕ) (op : ℕ) → Sends client w time op → Option Excess
 excess_of client w time op s = excess s.command client.settings.db s.extras s.cluster (sizes_of s.selected)
 
+-- A request is the message of that document, byte by byte, and its bytes frame it (MongoDB wire protocol, OP_MSG).
+pub record IsMessageOf (body : Document) (r : Request) : Type 0 where
+  pub bytes : r.bytes ≡ frame r.id (pos 0) 0 body
+  pub framed : Framed r.bytes (message_of r.id (pos 0) 0 body)
+
 -- A request is a command's: on the stream of the connection that is lent to it, where nothing of it is too large.
 pub record IsRequestOf (client : Client) (w : ClientState) (time : Option ℕ) (op : ℕ) (r : Request) : Type 0 where
   pub sends : Sends client w time op
   pub fits : excess_of client w time op sends ≡ None
   pub stream : stream_of sends.server sends.conn ≡ Some r.stream
-  pub bytes : r.bytes ≡ frame r.id (pos 0) 0 (document_sent client w time op sends)
+  pub message : IsMessageOf (document_sent client w time op sends) r
 
 -- A command is too large, by these sizes.
 pub record IsTooLarge (client : Client) (w : ClientState) (time : Option ℕ) (op size most : ℕ) : Type 0 where
@@ -162,7 +167,7 @@ pub record IsFarewell (w : ClientState) (moment : ℕ) (r : Request) : Type 0 wh
   pub sound : is_perished server.pool.state moment free ≡ false
   pub stream : stream_of server free.conn ≡ Some r.stream
   pub unused : list_any (nat_eq r.stream) w.farewells ≡ false
-  pub bytes : r.bytes ≡ frame r.id (pos 0) 0 (farewell_document ids)
+  pub message : IsMessageOf (farewell_document ids) r
 
 -- ---- When a request may be queued, and what that does
 

@@ -1,6 +1,6 @@
 -- Farewells on one stream after another.
 use Rattle.std.proofs.Common.{◌≡◌, ◌≢◌, ◌≤◌, ◌||◌, ℕ, ◌+◌, ℤ, Bool, true, false, List, [], ◌∷◌, ◌++◌, length, Option, None, Some, refl, sym, ap, ◌∙◌, subst, arith, inl, inr}
-use Rattle.std.specs.Prelude.{pos, nat_eq, is_some, slice_get}
+use Rattle.std.specs.Prelude.{nat_eq, is_some, slice_get}
 use Rattle.std.specs.Option.{option_map}
 use Rattle.std.specs.List.{list_any}
 use Rattle.std.proofs.lemmas.Bool.Decides.{eqb_tells}
@@ -8,7 +8,6 @@ use Rattle.std.proofs.lemmas.List.{append-nil, append_assoc, length-append}
 use Rattle.std.proofs.lemmas.List.Folds.{list_any-append}
 use Rattle.topo_rules.specs.Readings.{session_minutes_of}
 use Rattle.bson_doc.specs.declared.ids.Lsid.{Lsid}
-use Rattle.msg_wire.specs.Framing.{frame}
 use Rattle.cmd_build.specs.Handshakes.{farewell_document}
 use Rattle.pool_book.specs.declared.connections.Available.{Available}
 use Rattle.desk_trail.specs.declared.entry.Entry.TheVariants as entry
@@ -16,7 +15,7 @@ use Rattle.desk_trail.specs.declared.request.Purpose.TheVariants as purpose
 use Rattle.desk_trail.specs.declared.request.Request.{Request}
 use Rattle.desk_trail.specs.Facts as fact
 use Rattle.desk_trail.specs.Legal.{StandsAt}
-use Rattle.desk_trail.specs.Requests.{id_at}
+use Rattle.desk_trail.specs.Requests.{IsMessageOf, id_at}
 use Rattle.desk_trail.specs.Written.{a_request}
 use Rattle.sess_book.specs.Ending.{IsParted, kept_ids}
 use Rattle.desk_trail.specs.States.{ClientState, ServerState}
@@ -166,12 +165,12 @@ Carries-none {N} moment closings lists old new carriers ready same room =
 pub StandsAt-next : {N : Type 0} (moment closings : ℕ) (lists : List (List Lsid)) (carriers : List ℕ) (old new : Standing N) (r : Request) (ids : List Lsid) → IsSameBut old new →
     IsToAsk old.trail closings moment lists carriers → MayCarry old.trail.point.state old.lines moment r.stream → list_any (nat_eq r.stream) carriers ≡ false →
     slice_get lists (length carriers) ≡ Some ids → r.purpose ≡ purpose.Farewell → r.id ≡ id_at (length old.trail.lists.requests) →
-    r.bytes ≡ frame r.id (pos 0) 0 (farewell_document ids) →
+    IsMessageOf (farewell_document ids) r →
     StandsAt new.trail.client new.trail.point (record { at = moment; what = fact.Asked (length new.trail.lists.requests) r })
-StandsAt-next {N} moment closings lists carriers old new r ids same ready may unused next is_for id bytes =
+StandsAt-next {N} moment closings lists carriers old new r ids same ready may unused next is_for id message =
     subst (λ (s : Standing N). StandsAt s.trail.client s.trail.point (record { at = moment; what = fact.Asked (length s.trail.lists.requests) r })) (sym same)
     (StandsAt-farewell old.trail.client old.trail.point moment (length old.trail.lists.requests) r ready.paid ready.time (sym ready.counted) id is_for
-    (IsFarewell-next old.trail closings moment lists carriers old.lines r ids ready may unused next bytes))
+    (IsFarewell-next old.trail closings moment lists carriers old.lines r ids ready may unused next message))
 
 -- its stream is in use behind it
 pub IsThere-queued : (lines moved : Lines) (stream s : ℕ) (bytes : List ℕ) → s ≡ stream → IsIdle lines stream →

@@ -1,12 +1,11 @@
 -- A farewell that is asked: that it may stand, and the trail behind it.
-use Rattle.std.proofs.Common.{◌≡◌, ◌≤◌, ℕ, ◌+◌, ℤ, pos, Bool, true, false, List, [], ◌∷◌, ◌++◌, length, Some, refl, sym, ap, ◌∙◌, subst, arith}
+use Rattle.std.proofs.Common.{◌≡◌, ◌≤◌, ℕ, ◌+◌, Bool, true, false, List, [], ◌∷◌, ◌++◌, length, Some, refl, sym, ap, ◌∙◌, subst, arith}
 use Rattle.std.specs.Prelude.{All, nat_eq, slice_get}
 use Rattle.std.specs.List.{list_any}
 use Rattle.std.proofs.Math.ListN.{drop}
 use Rattle.std.proofs.lemmas.List.{append-nil, append_assoc, length-append}
 use Rattle.std.proofs.lemmas.List.Elements.{All-append, All-cons, All-nil}
 use Rattle.bson_doc.specs.declared.ids.Lsid.{Lsid}
-use Rattle.msg_wire.specs.Framing.{frame}
 use Rattle.cmd_build.specs.Handshakes.{farewell_document}
 use Rattle.desk_trail.specs.declared.entry.Entry.TheVariants as entry
 use Rattle.desk_trail.specs.declared.request.Purpose.{Purpose}
@@ -19,7 +18,7 @@ use Rattle.desk_trail.specs.Facts.{Lists}
 use Rattle.desk_trail.specs.Facts as fact
 use Rattle.desk_trail.specs.Legal.{InTime, MayGoOn, Point, StandsAt, client_after}
 use Rattle.desk_trail.specs.Owed.{InTurn, MayAsk}
-use Rattle.desk_trail.specs.Requests.{IsFarewell, IsFor, farewell_by, id_at}
+use Rattle.desk_trail.specs.Requests.{IsFarewell, IsFor, IsMessageOf, farewell_by, id_at}
 use Rattle.desk_trail.specs.States.{ClientState}
 use Rattle.desk_trail.specs.Written.{a_request, step_of}
 use Rattle.legal_trail.specs.Recorded.{Adds, Recorded}
@@ -45,8 +44,8 @@ StandsAt-farewell client p moment place r paid time next id is_for farewell = le
 
 pub IsFarewell-next : (r : Recorded) (closings moment : ℕ) (lists : List (List Lsid)) (carriers : List ℕ) (lines : Lines) (request : Request) (ids : List Lsid) →
     IsToAsk r closings moment lists carriers → MayCarry r.point.state lines moment request.stream → list_any (nat_eq request.stream) carriers ≡ false →
-    slice_get lists (length carriers) ≡ Some ids → request.bytes ≡ frame request.id (pos 0) 0 (farewell_document ids) → IsFarewell r.point.state moment request
-IsFarewell-next r closings moment lists carriers lines request ids ready may unused next bytes = record {
+    slice_get lists (length carriers) ≡ Some ids → IsMessageOf (farewell_document ids) request → IsFarewell r.point.state moment request
+IsFarewell-next r closings moment lists carriers lines request ids ready may unused next message = record {
   minutes = ready.minutes;
   has_sessions = ready.kept;
   lists = lists;
@@ -67,7 +66,7 @@ IsFarewell-next r closings moment lists carriers lines request ids ready may unu
   sound = may.is_free.sound;
   stream = may.is_free.on;
   unused = subst (λ (c : List ℕ). list_any (nat_eq request.stream) c ≡ false) (sym ready.known) unused;
-  bytes = bytes;
+  message = message;
 }
 
 -- ---- The client behind it

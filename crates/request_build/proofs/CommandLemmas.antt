@@ -17,7 +17,7 @@ use Rattle.cmd_build.proofs.SizeLemmas.{fits_message}
 use Rattle.conn_uri.specs.Configurations.{Configuration}
 use Rattle.desk_trail.specs.declared.request.Request.{Request}
 use Rattle.desk_trail.specs.Clients.{Client}
-use Rattle.desk_trail.specs.Requests.{AreExtras, IsRequestOf, IsTooLarge, sizes_of}
+use Rattle.desk_trail.specs.Requests.{AreExtras, IsMessageOf, IsRequestOf, IsTooLarge, sizes_of}
 use Rattle.desk_trail.specs.States.{ClientState, Selected}
 use Rattle.request_build.specs.Inputs.{AreInputs}
 use Rattle.request_build.specs.declared.sending.Sending.{Sending}
@@ -44,8 +44,8 @@ fits c db extras time sizes small e =
 pub request-of : (client : Client) (w : ClientState) (time : Option ℕ) (op : ℕ) (i : Sending) (stream : ℕ) (selected : Selected) (extras : Extras) (r : Request) →
     AreInputs client w time op i stream → i.running.now.selected ≡ Some selected → AreExtras client w i.command.now.act i.running.now selected extras →
     excess i.command.now i.settings.now.db extras (option_copied i.time) (sizes_of selected) ≡ None → r.stream ≡ stream →
-    r.bytes ≡ frame r.id (pos 0) 0 (command_document i.command.now i.settings.now.db extras (option_copied i.time)) → IsRequestOf client w time op r
-request-of client w time op i stream selected extras r h chosen are fits on bytes = record {
+    IsMessageOf (command_document i.command.now i.settings.now.db extras (option_copied i.time)) r → IsRequestOf client w time op r
+request-of client w time op i stream selected extras r h chosen are fits on message = record {
   sends = record {
     command = i.command.now;
     given = h.given;
@@ -67,7 +67,7 @@ request-of client w time op i stream selected extras r h chosen are fits on byte
   };
   fits = subst (λ (s : Configuration). excess i.command.now s.db extras (option_copied i.time) (sizes_of selected) ≡ None) (sym h.settings) fits;
   stream = h.stream_there ∙ ap Some (sym on);
-  bytes = bytes ∙ ap (λ (s : Configuration). frame r.id (pos 0) 0 (command_document i.command.now s.db extras (option_copied i.time))) (sym h.settings);
+  message = subst (λ (s : Configuration). IsMessageOf (command_document i.command.now s.db extras (option_copied i.time)) r) (sym h.settings) message;
 }
 
 pub too-large : (client : Client) (w : ClientState) (time : Option ℕ) (op : ℕ) (i : Sending) (stream : ℕ) (selected : Selected) (extras : Extras) (size most : ℕ) →

@@ -1,6 +1,6 @@
 ghost use Rattle.std.specs.Prelude.{◌≡◌, ◌≤◌, pos, None, IfErr, IfOk, OnOk};
 ghost use Rattle.std.specs.Option.{option_copied};
-ghost use Rattle.msg_wire.specs.Framing.{frame};
+ghost use Rattle.msg_wire.specs.Framing.{Framed, frame, message_of as framed_message};
 ghost use Rattle.cmd_build.specs.Commands.{command_document};
 ghost use Rattle.cmd_build.specs.Sizes.{IsWithin, Tells, excess, levels_of_time};
 ghost use Rattle.request_build.specs.Inputs.{Answers, IsSendable};
@@ -62,6 +62,8 @@ fn message_of(
     requires size { sizes.max_message ≤ 48000000 }
     ensures asks { IfOk result (λ bytes. bytes ≡ frame id (pos 0) 0
         (command_document sending.entry.command.now sending.entry.settings.now.db extras.now (option_copied sending.entry.time))) }
+    ensures framed { IfOk result (λ bytes. Framed bytes (framed_message id (pos 0) 0
+        (command_document sending.entry.command.now sending.entry.settings.now.db extras.now (option_copied sending.entry.time)))) }
     ensures fits { OnOk result (excess sending.entry.command.now sending.entry.settings.now.db extras.now (option_copied sending.entry.time) sizes ≡ None) }
     ensures too_large { IfErr result (λ fault. Tells fault
         (excess sending.entry.command.now sending.entry.settings.now.db extras.now (option_copied sending.entry.time) sizes)) }

@@ -1,8 +1,8 @@
 ghost use Rattle.std.specs.Prelude.{◌≡◌, pos, IfOk};
-ghost use Rattle.msg_wire.specs.Framing.{frame};
+ghost use Rattle.msg_wire.specs.Framing.{Framed, frame, message_of};
 ghost use Rattle.cmd_build.specs.Handshakes.{farewell_document};
 ghost use Rattle.desk_trail.specs.declared.request.Purpose.TheVariants as purpose;
-ghost use Rattle.desk_trail.specs.Requests.{id_at};
+ghost use Rattle.desk_trail.specs.Requests.{IsMessageOf, id_at};
 
 use crate::Memory;
 use crate::ids::id_of;
@@ -15,7 +15,8 @@ use std::alloc::{AllocError, Global};
 
 /// The bytes of a farewell with that id (Driver Sessions, endSessions).
 fn farewell_bytes(alloc: Global, id: i32, ids: &Rows<Lsid>) -> Result<Bytes, Memory>
-    ensures { IfOk result (λ bytes. bytes ≡ frame id (pos 0) 0 (farewell_document ids.now)) }
+    ensures bytes { IfOk result (λ bytes. bytes ≡ frame id (pos 0) 0 (farewell_document ids.now)) }
+    ensures framed { IfOk result (λ bytes. Framed bytes (message_of id (pos 0) 0 (farewell_document ids.now))) }
 {
     let document = farewell_document(alloc, ids)?;
     // (10,000 sessions are far below the bounds of depth and size, so that memory alone can be wanting)
@@ -29,7 +30,7 @@ pub fn farewell_request(
     stream: u64,
     place: usize,
 ) -> Result<MadeRequest, Memory>
-    ensures bytes_of { IfOk result (λ made. made.request.bytes ≡ frame made.request.id (pos 0) 0 (farewell_document ids.now)) }
+    ensures message { IfOk result (λ made. IsMessageOf (farewell_document ids.now) made.request) }
     ensures purpose { IfOk result (λ made. made.request.purpose ≡ purpose.Farewell) }
     ensures stream { IfOk result (λ made. made.request.stream ≡ stream) }
     ensures id { IfOk result (λ made. made.request.id ≡ id_at place) }

@@ -80,12 +80,12 @@ lease-kept s t moment minutes own l old new false h by of put =
     subst (λ m. AreKept m new) (sym (ap (λ (u : Sessions). u.made) by.moves ∙ with_session-there s.made l.place was.before (λ x. record x { holding = holding.Leased }) was.there))
     (subst (λ ls. AreKept (slice_set s.made l.place y) ls) (sym put) (AreKept-set s.made old l.place was.before y l h was.there refl id))
 
-pub lease-taken : (s t : Sessions) (moment : ℕ) (minutes : ℤ) (own : Lsid) (l : Lease) (b : Bool) → LeasesBy s moment minutes own l b t → IsOf l t →
+pub lease-taken : (s t : Sessions) (moment : ℕ) (minutes : ℤ) (own : Lsid) (l : Lease) (b : Bool) → length own.0 ≡ 16 → LeasesBy s moment minutes own l b t → IsOf l t →
     IsTaken s moment minutes own l.place l.lsid b t
-lease-taken s t moment minutes own l true by of = record {
+lease-taken s t moment minutes own l true size by of = record {
   goes = subst (λ i. Goes sessions_judge s moment (Made l.place i minutes) t) (sym by.0) by.1;
   made = λ e. by.0;
-  id = tt;
+  id = ap (λ (i : Lsid). length i.0) by.0 ∙ size;
   held = record {
     session = new_session own;
     there = ap (λ (u : Sessions). slice_get u.made l.place) by.1.moves
@@ -93,7 +93,7 @@ lease-taken s t moment minutes own l true by of = record {
     so = refl;
   };
 }
-lease-taken s t moment minutes own l false by of =
+lease-taken s t moment minutes own l false size by of =
     let was = reused s t moment minutes l by of in
     record {
       goes = by;

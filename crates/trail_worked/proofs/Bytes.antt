@@ -69,7 +69,7 @@ module _ (mode : Option Mode) (read : Option (Bor Preference)) where
       ≡ with_fields (element (codes "lsid") (kinds.Doc, document (element (codes "id") (kinds.Plain plain.Binary, binary 4 id.0) ++ [])) ++ [])
   spelled-leased id = front _ ∙ (λ i. with_fields (element (codes "lsid") (of_session id i) ++ []))
 
-  spelled-numbered : (id : Lsid) (number : ℤ) →
+  pub spelled-numbered : (id : Lsid) (number : ℤ) →
       spelled (command_document an_insert (codes "test") (record { lsid = Some id; number = Some number; mode = mode; read = read }) None)
       ≡ with_fields (element (codes "lsid") (kinds.Doc, document (element (codes "id") (kinds.Plain plain.Binary, binary 4 id.0) ++ []))
       ++ (element (codes "txnNumber") (kinds.Plain plain.Int64, int64 number) ++ []))

@@ -3,6 +3,7 @@ use Rattle.std.proofs.Common.{true, [], ◌∷◌, None, Some, refl, inl, arith,
 use Rattle.trail_worked.proofs.Rules.{start, looks, offers}
 use Rattle.trail_worked.proofs.Spots.{AreGood, spot_behind}
 use Rattle.trail_worked.proofs.Bytes.{fits_plain}
+use Rattle.trail_worked.proofs.Framings.{framed_plain}
 use Rattle.topo_rules.specs.declared.event.TopoEvent.TheVariants as event
 use Rattle.desk_trail.specs.declared.entry.OfferedHow.TheVariants as offered
 use Rattle.server_pick.specs.declared.criteria.Need.TheVariants as need
@@ -43,7 +44,7 @@ good = (
                               (
                                 record { time = refl; turn = refl; going = tt; rule = (_, refl, refl); command = (_, refl, refl) },
                                 (
-                                  record { time = omega arith; turn = tt; going = tt; rule = record { next = refl; id = refl; is_for = record { sends = record { command = _; given = refl; running = _; there = refl; unasked = refl; selected = _; chosen = refl; host = 0; ticket = 0; conn = 1; lent = refl; server = _; at = refl; extras = record { lsid = None; number = None; mode = None; read = Some (record { ref_ptr = (0, 0); now = _ }) }; are = record { session = refl; number = refl; mode = refl; read = refl }; cluster = None; greatest = tt }; fits = fits_plain None (Some (record { ref_ptr = (0, 0); now = client_of_three.settings.read })); stream = refl; bytes = refl } }; command = (_, refl, refl) },
+                                  record { time = omega arith; turn = tt; going = tt; rule = record { next = refl; id = refl; is_for = record { sends = record { command = _; given = refl; running = _; there = refl; unasked = refl; selected = _; chosen = refl; host = 0; ticket = 0; conn = 1; lent = refl; server = _; at = refl; extras = record { lsid = None; number = None; mode = None; read = Some (record { ref_ptr = (0, 0); now = _ }) }; are = record { session = refl; number = refl; mode = refl; read = refl }; cluster = None; greatest = tt }; fits = fits_plain None (Some (record { ref_ptr = (0, 0); now = client_of_three.settings.read })); stream = refl; message = record { bytes = refl; framed = framed_plain 3 (omega arith) } } }; command = (_, refl, refl) },
                                   (
                                     record { time = omega arith; turn = tt; going = tt; rule = (_, refl, record { lent = refl; asked = 300; since = refl; ends = tt }); command = (_, refl, refl) },
                                     (
@@ -53,7 +54,7 @@ good = (
                                         (
                                           record { time = omega arith; turn = tt; going = tt; rule = (_, refl, (_, refl, refl, refl)); command = (_, refl, refl) },
                                           (
-                                            record { time = omega arith; turn = tt; going = tt; rule = record { next = refl; id = refl; is_for = record { sends = record { command = _; given = refl; running = _; there = refl; unasked = refl; selected = _; chosen = refl; host = 0; ticket = 1; conn = 1; lent = refl; server = _; at = refl; extras = record { lsid = None; number = None; mode = None; read = Some (record { ref_ptr = (0, 0); now = _ }) }; are = record { session = refl; number = refl; mode = refl; read = refl }; cluster = None; greatest = tt }; fits = fits_plain None (Some (record { ref_ptr = (0, 0); now = client_of_three.settings.read })); stream = refl; bytes = refl } }; command = (_, refl, refl) },
+                                            record { time = omega arith; turn = tt; going = tt; rule = record { next = refl; id = refl; is_for = record { sends = record { command = _; given = refl; running = _; there = refl; unasked = refl; selected = _; chosen = refl; host = 0; ticket = 1; conn = 1; lent = refl; server = _; at = refl; extras = record { lsid = None; number = None; mode = None; read = Some (record { ref_ptr = (0, 0); now = _ }) }; are = record { session = refl; number = refl; mode = refl; read = refl }; cluster = None; greatest = tt }; fits = fits_plain None (Some (record { ref_ptr = (0, 0); now = client_of_three.settings.read })); stream = refl; message = record { bytes = refl; framed = framed_plain 4 (omega arith) } } }; command = (_, refl, refl) },
                                             (
                                               record { time = omega arith; turn = tt; going = tt; rule = (_, refl, record { lent = refl; asked = 410; since = refl; ends = tt }); command = (_, refl, refl) },
                                               (

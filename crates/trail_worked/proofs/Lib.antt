@@ -4,6 +4,7 @@ mod Spots
 mod Rules
 mod Where
 mod Bytes
+mod Framings
 mod Farewells
 mod OneInsertGood
 mod LentAgainGood

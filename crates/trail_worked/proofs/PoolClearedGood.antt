@@ -4,6 +4,7 @@ use Rattle.trail_worked.proofs.Rules.{start, looks, offers}
 use Rattle.trail_worked.proofs.Spots.{AreGood, spot_behind}
 use Rattle.trail_worked.proofs.Where.{kinds_of}
 use Rattle.trail_worked.proofs.Bytes.{fits_plain}
+use Rattle.trail_worked.proofs.Framings.{framed_plain}
 use Rattle.topo_rules.specs.declared.event.TopoEvent.TheVariants as event
 use Rattle.desk_trail.specs.declared.entry.OfferedHow.TheVariants as offered
 use Rattle.server_pick.specs.declared.criteria.Need.TheVariants as need
@@ -36,7 +37,7 @@ good = (
                       (
                         record { time = refl; turn = refl; going = tt; rule = (_, refl, refl); command = (_, refl, refl) },
                         (
-                          record { time = omega arith; turn = tt; going = tt; rule = record { next = refl; id = refl; is_for = record { sends = record { command = _; given = refl; running = _; there = refl; unasked = refl; selected = _; chosen = refl; host = 0; ticket = 0; conn = 1; lent = refl; server = _; at = refl; extras = record { lsid = None; number = None; mode = None; read = Some (record { ref_ptr = (0, 0); now = _ }) }; are = record { session = refl; number = refl; mode = refl; read = refl }; cluster = None; greatest = tt }; fits = fits_plain None (Some (record { ref_ptr = (0, 0); now = client_of_cleared.settings.read })); stream = refl; bytes = refl } }; command = (_, refl, refl) },
+                          record { time = omega arith; turn = tt; going = tt; rule = record { next = refl; id = refl; is_for = record { sends = record { command = _; given = refl; running = _; there = refl; unasked = refl; selected = _; chosen = refl; host = 0; ticket = 0; conn = 1; lent = refl; server = _; at = refl; extras = record { lsid = None; number = None; mode = None; read = Some (record { ref_ptr = (0, 0); now = _ }) }; are = record { session = refl; number = refl; mode = refl; read = refl }; cluster = None; greatest = tt }; fits = fits_plain None (Some (record { ref_ptr = (0, 0); now = client_of_cleared.settings.read })); stream = refl; message = record { bytes = refl; framed = framed_plain 3 (omega arith) } } }; command = (_, refl, refl) },
                           (
                             record { time = omega arith; turn = tt; going = tt; rule = ((_, refl, refl), looks client_of_cleared (spot_behind client_of_cleared (start client_of_cleared) (take 13 pool_cleared)).point.state (spot_behind client_of_cleared (start client_of_cleared) (take 13 pool_cleared)).listed 400 1 7 8 (0 ∷ []) _ (record { command = _; given = refl; running = _; there = refl; criteria = record { need = need.Write; avoid = None; threshold_micros = 15000 }; asks = record { needs = refl; avoids = refl; within = refl }; addresses = alone ∷ []; numbers = (refl, tt); sublist = inl (refl, tt); concludes = refl })); command = (_, refl, refl) },
                             (

@@ -119,7 +119,7 @@ bytes_sent client w op r command lsid number given session drawn q =
     s.are.session ∙ same (sym (ap (option_map (λ (c : CommandState). lsid_of w.sessions c.session)) s.there) ∙ session) in
     let is_number : s.extras.number ≡ number = s.are.number ∙ same (sym (ap (option_map (λ (c : CommandState). c.number)) s.there) ∙ drawn) in
     let none : s.cluster ≡ None = no_cluster s.cluster s.greatest in
-    q.bytes ∙ (λ i. frame r.id (pos 0) 0 (command_document (is_command i) client.settings.db (record { lsid = is_lsid i; number = is_number i; mode = s.extras.mode; read = s.extras.read }) (none i)))
+    q.message.bytes ∙ (λ i. frame r.id (pos 0) 0 (command_document (is_command i) client.settings.db (record { lsid = is_lsid i; number = is_number i; mode = s.extras.mode; read = s.extras.read }) (none i)))
 
 -- what an entry of the sessions says of its command
 module _ (w : ClientState) (moment op : ℕ) (c : CommandState) where

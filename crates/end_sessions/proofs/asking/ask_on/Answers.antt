@@ -49,7 +49,7 @@ ask-requires-clause-stands g c =
     (subst (λ x. MayCarry c.args.wired.now.trail.point.state c.args.wired.now.lines c.args.asking.moment x) (sym made.stream) c.requires.may)
     (ap (λ x. list_any (nat_eq x) c.args.carriers.now.items) made.stream ∙ c.requires.unused)
     (subst (λ n. slice_get c.args.asking.lists.now n ≡ Some ids) count next)
-    made.purpose (made.id ∙ ap (λ rs. id_at (length rs)) c.requests-place.ensures.value) made.bytes_of
+    made.purpose (made.id ∙ ap (λ rs. id_at (length rs)) c.requests-place.ensures.value) made.message
 
 pub push-requires : goal.push-requires
 push-requires g c = record {

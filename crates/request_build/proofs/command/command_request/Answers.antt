@@ -22,7 +22,7 @@ returns-in_ok-sent-in-Ok c =
             request-of client w time c.args.at.op i c.args.at.stream (selected_of c.in-Some.selected.now) extras
             (record { stream = c.args.at.stream; id = id; purpose = purpose.Command c.args.at.op; bytes = c.in-Ok.bytes }) h (sym c.in-Some.ensures.selected)
             (c.extras_of-extras.ensures.extras client w h.settings h.session)
-            (subst (λ s. excess i.command.now i.settings.now.db extras (option_copied i.time) s ≡ None) c.sizes_of.ensures c.in-Ok.ensures.fits) refl c.in-Ok.ensures.asks;
+            (subst (λ s. excess i.command.now i.settings.now.db extras (option_copied i.time) s ≡ None) c.sizes_of.ensures c.in-Ok.ensures.fits) refl (record { bytes = c.in-Ok.ensures.asks; framed = c.in-Ok.ensures.framed });
       };
     }
 

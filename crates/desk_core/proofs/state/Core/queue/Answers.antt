@@ -7,9 +7,9 @@ use Rattle.desk_trail.specs.Written.{IsAtLeast, a_request}
 use Rattle.wired_trail.specs.Lines.{line_at}
 use Rattle.legal_trail.specs.Recorded.{Recorded}
 use Rattle.wired_trail.specs.Hearing.{told_of}
-use Rattle.desk_core.proofs.AppendsLemmas.{grown-same}
+use Rattle.desk_core.proofs.AppendsLemmas.{grown-same, grown-trans}
 use Rattle.desk_core.proofs.AttemptLemmas.{IsKept-entry}
-use Rattle.desk_core.proofs.BesideLemmas.{GoesBeside-asked, IsOfCommand, KeepsCheckLines-conn}
+use Rattle.desk_core.proofs.BesideLemmas.{GoesBeside-asked, IsOfCommand, KeepsCheckLines-conn, grown-asked}
 use Rattle.desk_core.proofs.KeptLemmas.{IsKept-room}
 use Rattle.desk_core.proofs.state.Core.queue.Goals as goal
 
@@ -48,3 +48,13 @@ pub send-requires-clause-free_stream : goal.send-requires-clause-free_stream
 send-requires-clause-free_stream g c = λ tells.
     let free = rw (← c.self.view_is) at (c.in_ok-check_free.ensures.free tells) in
     subst (λ (t : Recorded). (told_of t c.args.made.request.stream).last ≡ None) (sym (ap (λ s. s.trail) c.reserve.ensures.same)) free
+
+pub returns-clause-appends : goal.returns-clause-appends
+returns-clause-appends g c =
+    let old : Recorded = c.self.inside.wired.trail in
+    let r : Recorded = c.reserve.new.self.trail in
+    let e = ap (λ s. s.trail) c.reserve.ensures.same in
+    rw (← c.self.view_is)
+    (grown-trans c.args.at.moment old r c.send.new.wired.trail
+    (grown-same c.args.at.moment old r (ap (λ (t : Recorded). t.client) e) (ap (λ (t : Recorded). t.lists) e) (ap (λ (t : Recorded). t.steps) e))
+    (grown-asked a_request c.args.at.moment (length r.lists.requests) (entry_of.Asked (length r.lists.requests)) c.args.made.request r c.send.new.wired.trail c.send.ensures.adds (λ t. absurd (cc))))

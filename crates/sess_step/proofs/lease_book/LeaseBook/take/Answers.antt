@@ -1,4 +1,4 @@
-use Rattle.std.proofs.Common.{sym, subst, w64, to_z, of_z}
+use Rattle.std.proofs.Common.{refl, sym, subst, w64, to_z, of_z}
 use Rattle.std.proofs.lemmas.Int.{to_z-of_z}
 use Rattle.sess_book.specs.Answers.{Answers}
 use Rattle.sess_book.specs.declared.lease.Leased.TheVariants as leased
@@ -25,4 +25,4 @@ returns-in-Lease-clause-answer c =
     let by = subst (λ m. Answers c.self.inside.book c.args.moment m own (leased.Lease l) c.take.new.self) (to_z-of_z w64 c.args.minutes c.ranges.minutes) raw in
     subst (λ r. Takes c.args.self.now c.args.moment c.args.minutes own r c.take.new.self) (sym c.taken_by-taken.ensures)
     (subst (λ s. Takes s c.args.moment c.args.minutes own (taken.Session l.place l.lsid l.fresh) c.take.new.self) c.self.view_is
-    (lease-taken c.self.inside.book c.take.new.self c.args.moment c.args.minutes own l l.fresh by.0 by.1))
+    (lease-taken c.self.inside.book c.take.new.self c.args.moment c.args.minutes own l l.fresh refl by.0 by.1))

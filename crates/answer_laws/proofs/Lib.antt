@@ -1,0 +1,10 @@
+mod ListLemmas
+mod NewLemmas
+mod ServerLemmas
+mod ChangeLemmas
+mod OwedLemmas
+mod PoolLemmas
+mod AccountLemmas
+mod UseLemmas
+mod AskedLemmas
+mod AnswerLemmas

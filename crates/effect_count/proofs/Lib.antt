@@ -1,0 +1,13 @@
+mod ListLemmas
+mod NewLemmas
+mod ServerLemmas
+mod ChangeLemmas
+mod OwedLemmas
+mod PoolLemmas
+mod MoveLemmas
+mod UseLemmas
+mod AccountLemmas
+mod KeepLemmas
+mod PhaseLemmas
+mod TrailLemmas
+mod IndexLemmas

@@ -1,0 +1,14 @@
+mod HelloLemmas
+mod StreamLemmas
+mod SeenLemmas
+mod ListLemmas
+mod ChangeLemmas
+mod TrailLemmas
+mod MachineLemmas
+mod StepLemmas
+mod OwedLemmas
+mod DocumentLemmas
+mod SessionLemmas
+mod DrawnLemmas
+mod AskingLemmas
+mod KeyLemmas

@@ -1,5 +1,4 @@
 //! A listener for the tests of events.
-use bson_doc::Rows;
 use drv_events::{Event, Listener};
 use host_name::Host;
 
@@ -19,7 +18,7 @@ impl Listener for Expects {
 
     ghost leaves = { λ x. x.leaves };
 
-    fn hear(&mut self, names: &Rows<Host>, event: &Event) {
+    fn hear(&mut self, names: &[Host], event: &Event) {
         let kept = self.heard.push(*event).is_ok();
         self.leaves = !kept || names.len() == 1 && self.heard.as_slice() == self.events.as_slice();
     }

@@ -19,7 +19,7 @@ impl Listener for Leaves {
 
     ghost leaves = { λ _. true };
 
-    fn hear(&mut self, _names: &Rows<Host>, _event: &Event) {}
+    fn hear(&mut self, _names: &[Host], _event: &Event) {}
 
     fn leaving(&self) -> bool {
         true
@@ -51,11 +51,11 @@ fn boxed_listeners_hear_and_leave(rt: HostRuntime) -> Result<(), Fail> {
     assert!(rt; hooks.add(expects).is_ok());
     assert!(rt; hooks.add(leaves).is_ok());
     assert_eq!(rt; (hooks.len(), hooks.left()), (2, 0));
-    deliver(&mut hooks, &names, &opened);
+    deliver(&mut hooks, names.as_slice(), &opened);
     assert_eq!(rt; (hooks.len(), hooks.left()), (1, 1));
-    deliver(&mut hooks, &names, &closed);
+    deliver(&mut hooks, names.as_slice(), &closed);
     assert_eq!(rt; (hooks.len(), hooks.left()), (0, 2));
-    deliver(&mut hooks, &names, &closed);
+    deliver(&mut hooks, names.as_slice(), &closed);
     assert_eq!(rt; (hooks.len(), hooks.left()), (0, 2));
     each_heard_what_was_told_since::<Expects>();
     all_are_counted::<Expects>();

@@ -2,7 +2,6 @@ ghost use Rattle.std.specs.Prelude.{◌≡◌, [], ◌∷◌, ◌++◌, ◌+◌,
 ghost use Rattle.drv_events.specs.Hearing.{Delivered, Hears};
 
 use crate::{Event, Listener};
-use bson_doc::Rows;
 use host_name::Host;
 use std::alloc::Global;
 
@@ -63,7 +62,7 @@ impl<L: Drop> HooksOf<L> {
 }
 
 /// Tells every listener an event, one after another, and drops those that say that they leave. It takes no memory.
-pub fn deliver<L: Listener>(hooks: &mut HooksOf<L>, names: &Rows<Host>, event: &Event)
+pub fn deliver<L: Listener>(hooks: &mut HooksOf<L>, names: &[Host], event: &Event)
     ensures heard { Delivered L.heard L.leaves event.now hooks.old.listeners.items hooks.new.listeners.items }
     ensures left { hooks.new.left + length hooks.new.listeners.items ≡ hooks.old.left + length hooks.old.listeners.items }
 {
@@ -75,7 +74,7 @@ pub fn deliver<L: Listener>(hooks: &mut HooksOf<L>, names: &Rows<Host>, event: &
 }
 
 /// Tells a listener an event; whether it stays.
-fn tell<L: Listener>(listener: &mut L, names: &Rows<Host>, event: &Event) -> bool
+fn tell<L: Listener>(listener: &mut L, names: &[Host], event: &Event) -> bool
     ensures heard { Hears event.now (L.heard listener.old) (L.heard listener.new) (L.leaves listener.new) }
     ensures value { result ≡ not (L.leaves listener.new) }
 {

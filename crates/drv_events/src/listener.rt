@@ -3,7 +3,6 @@ ghost use Rattle.drv_events.specs.Hearing.{Hears};
 ghost use Rattle.drv_events.specs.declared.event.Event.{Event};
 
 use crate::Event;
-use bson_doc::Rows;
 use host_name::Host;
 
 /// What an application hands in to hear a client's events. To contracts it is the list of the events that it heard.
@@ -20,7 +19,7 @@ pub trait Listener: Send + Drop {
 
     /// Hears an event: it joins those that were heard, or the listener leaves without it. `names` has the hosts that the
     /// event speaks of, each at its number.
-    fn hear(&mut self, names: &Rows<Host>, event: &Event)
+    fn hear(&mut self, names: &[Host], event: &Event)
         ensures heard { Hears event.now (heard self.old) (heard self.new) (leaves self.new) };
 
     /// Whether it wants to hear no more, and is to be dropped.
@@ -34,7 +33,7 @@ impl Listener for Box<dyn Listener> {
 
     ghost leaves = { λ b. (Listener-box b).leaves b.value };
 
-    fn hear(&mut self, names: &Rows<Host>, event: &Event) {
+    fn hear(&mut self, names: &[Host], event: &Event) {
         (**self).hear(names, event)
     }
 

@@ -1,6 +1,5 @@
 ghost use Rattle.std.specs.Prelude.{◌≡◌};
 
-use bson_doc::Rows;
 use drv_events::{Event, Listener};
 use host_name::Host;
 
@@ -22,7 +21,7 @@ impl Listener for Recorder {
 
     ghost leaves = { λ r. r.leaves };
 
-    fn hear(&mut self, _names: &Rows<Host>, event: &Event) {
+    fn hear(&mut self, _names: &[Host], event: &Event) {
         if self.leaves {
             return;
         }

@@ -26,7 +26,7 @@ pub fn step_of(alloc: Global, state: &mut State, words: &mut Words<'_>) -> Resul
         }
         "tell" => {
             let event = event_of(alloc, words)?;
-            deliver(&mut state.hooks, &state.names, &event);
+            deliver(&mut state.hooks, state.names.as_slice(), &event);
             Ok(())
         }
         _ => Err(CaseFault::word(alloc, verb)),

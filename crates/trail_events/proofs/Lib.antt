@@ -1,0 +1,3 @@
+mod AloneLemmas
+mod PoolLemmas
+pub mod ToldLemmas

@@ -1,0 +1,4 @@
+pub mod Alone
+pub mod InEntry
+pub mod Telling
+pub mod Told

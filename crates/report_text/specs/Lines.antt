@@ -1,5 +1,5 @@
 -- The lines of a report (own: no standard has a report).
-use Rattle.std.specs.Prelude.{◌<◌, ℕ, List, [], ◌∷◌, ◌++◌, codes, decimal, length}
+use Rattle.std.specs.Prelude.{ℕ, List, [], ◌∷◌, ◌++◌, codes, decimal}
 use Rattle.std.specs.Fmt.{signed_decimal}
 use Rattle.std.specs.List.{slice_get}
 use Rattle.std.specs.Option.{option_map_or}
@@ -7,15 +7,9 @@ use Rattle.host_name.specs.Addresses.{Address, address_text}
 use Rattle.write_retry.specs.declared.outcome.Outcome.{Outcome}
 use Rattle.write_retry.specs.declared.outcome.Outcome.TheVariants as outcome
 
--- The host of that number, as it is displayed; nothing where there is none.
+-- The host of that number, as `name:port`; nothing where there is none.
 abbrev pub host_text : List Address → ℕ → List ℕ
 host_text names host = option_map_or address_text (slice_get names host) []
-
--- The host that an outcome names has a name.
-abbrev pub IsNamed : List Address → Outcome → Type 0
-IsNamed names (outcome.Incompatible host min max) = host < length names
-IsNamed names (outcome.PoolClosed host) = host < length names
-IsNamed names _ = Unit {0}
 
 -- The outcome in words.
 abbrev pub said : List Address → Outcome → List ℕ
@@ -33,6 +27,10 @@ said names outcome.PoolTimeout = codes "pool-timeout"
 said names (outcome.PoolCleared generation) = codes "pool-cleared " ++ decimal generation
 said names (outcome.PoolClosed host) = codes "pool-closed " ++ host_text names host
 said names (outcome.TooLarge size most) = codes "too-large " ++ (decimal size ++ (codes " " ++ decimal most))
+
+-- The line of an option that was ignored: its name, and LF.
+abbrev pub ignored_line : List ℕ → List ℕ
+ignored_line name = codes "ignored " ++ (name ++ 10 ∷ [])
 
 -- A command's line: its number, its outcome and how many attempts it took, and LF.
 abbrev pub line : List Address → ℕ → Outcome → ℕ → List ℕ

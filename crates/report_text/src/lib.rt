@@ -1,9 +1,9 @@
-//! The report of a run: a line a command, and a last line that counts them (own).
+//! The report of a run: a line for each option that was ignored, a line a command, and a last line that counts them (own).
 //!
-//! [`line`] tells a command's outcome, [`last_line`] how many commands there were and how many were carried out. Each
-//! line ends with a line feed; `specs/Lines.antt` says which bytes a line has.
+//! [`ignored_line`] tells an option that was ignored, [`line`] a command's outcome, [`last_line`] how many commands there were
+//! and how many were carried out. Each line ends with a line feed; `specs/Lines.antt` says which bytes a line has.
 #![tactic(auto)]
 
 mod lines;
 
-pub use lines::{last_line, line};
+pub use lines::{ignored_line, last_line, line};

@@ -1,11 +1,11 @@
 //! Tests of the crates of rules: the decisions of the standards, the scripts of commands, and the lines of a report.
 //!
 //! There is a file for each crate that is tested, as `of_cmd_outcome` for `cmd_outcome`: public calls on their happy
-//! paths, and what no clause of a contract says. Beside the tests stands what they ask of an outcome ([`named`]).
+//! paths, and what no clause of a contract says. Beside the tests stands a line that they compare ([`first_line`]).
 //! The tests stand apart from the crates that they test, since a crate that has tests is proved once more with them.
 #![tactic(auto)]
 
-pub mod named;
+pub mod first_line;
 #[cfg(test)]
 mod of_cmd_outcome;
 #[cfg(test)]

@@ -1,8 +1,8 @@
 //! Each kind of line, letter by letter.
-use crate::named::is_named;
+use crate::first_line::first_line;
 use bson_doc::Rows;
 use host_name::Host;
-use report_text::{last_line, line};
+use report_text::{ignored_line, last_line, line};
 use std::alloc::Global;
 use std::test::Fail;
 use write_retry::Outcome;
@@ -70,12 +70,15 @@ fn lines_of_outcomes(rt: HostRuntime) -> Result<(), Fail> {
         ),
     ];
     for (outcome, wanted) in &rows {
-        if is_named(&names, outcome) {
-            assert_eq!(rt; line(alloc, 1, outcome, 1, &names)?.as_str(), *wanted);
-        } else {
-            assert!(rt; false, "{outcome:?} has no name");
-        }
+        assert_eq!(rt; first_line(alloc, outcome, &names)?.as_str(), *wanted);
     }
+    Ok(())
+}
+
+#[test]
+fn an_ignored_option(rt: HostRuntime) -> Result<(), Fail> {
+    let line = ignored_line(rt.alloc(), "w")?;
+    assert_eq!(rt; line.as_str(), "ignored w\n");
     Ok(())
 }
 

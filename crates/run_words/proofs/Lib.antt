@@ -1,2 +1,5 @@
-mod FaultLemmas
-mod PartLemmas
+mod FlagLemmas
+mod LevelLemmas
+mod LineLemmas
+mod MetLemmas
+mod NumberLemmas

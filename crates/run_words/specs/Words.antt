@@ -1,20 +1,25 @@
 -- What the words of a command line ask for.
-use Rattle.std.specs.Prelude.{ℕ, ◌==◌, ◌&&◌, not, List, [], ◌∷◌, Option, None, Some, length, codes, Bool, Result, Ok, Err, if◌then◌else◌, nat_le, is_some, position}
+use Rattle.std.specs.Prelude.{ℕ, ◌-◌, ◌^◌, ◌==◌, ◌&&◌, Bool, false, List, [], ◌∷◌, Option, None, Some, length, codes, Result, Ok, Err, if◌then◌else◌, nat_le, position, slice_get}
+use Rattle.std.specs.Char.{is_ascii_digit}
+use Rattle.std.specs.List.{list_all}
+use Rattle.std.specs.Option.{option_map_or}
+use Rattle.std.specs.Str.Parse.{digits_value}
 use Rattle.bson_doc.specs.Documents.{is_text}
-use Rattle.bson_doc.specs.Steps.{◌>>=◌}
-use Rattle.conn_uri.specs.Each.{read_each}
-use Rattle.conn_uri.specs.Seeds.{kept_once}
-use Rattle.host_name.specs.Addresses.{Address}
-use Rattle.host_name.specs.Reading.{reading}
-use Rattle.host_name.specs.declared.fault.HostFault.{HostFault}
+use Rattle.conn_uri.specs.Configurations.{Configuration}
+use Rattle.conn_uri.specs.Reading.{settings_of}
+use Rattle.conn_uri.specs.declared.fault.UriFault.{UriFault}
 use Rattle.run_words.specs.declared.fault.UseFault.{UseFault}
 use Rattle.run_words.specs.declared.fault.UseFault.TheVariants as fault
+use Rattle.run_words.specs.declared.task.Task.{Task}
+use Rattle.run_words.specs.declared.task.Task.TheVariants as task
 
--- Seeds, perhaps a set's name, and a database.
-pub record Asked : Type 0 where
-  pub hosts : List Address
-  pub set_name : Option (List ℕ)
-  pub db : List ℕ
+-- A word that begins with a dash (own: the command line has no options).
+abbrev pub has_dash : List ℕ → Bool
+has_dash word = option_map_or (λ b. b == 45) (slice_get word 0) false
+
+-- The place of the first such word, counted from 0.
+abbrev pub dash_in : List (List ℕ) → Option ℕ
+dash_in words = position has_dash words
 
 -- No word is longer than this.
 -- own: the standard has no limit.
@@ -24,48 +29,47 @@ MOST_WORD = 16777216
 abbrev pub is_short : List ℕ → Bool
 is_short word = nat_le (length word) MOST_WORD
 
--- A database's name is not empty and has no zero byte (MongoDB, Naming Restrictions).
-abbrev pub is_name : List ℕ → Bool
-is_name word = not (length word == 0) && not (is_some (position (λ b. b == 0) word))
+abbrev pub are_short : List (List ℕ) → Bool
+are_short words = list_all is_short words
 
--- The words `run HOSTS SET DB` are in form.
-abbrev pub are_in_form : List ℕ → List ℕ → List ℕ → List ℕ → Bool
-are_in_form verb hosts set db =
-    is_short verb && is_short hosts && is_short set && is_short db && is_text verb (codes "run") && not (length set == 0) && is_name db
+-- The most commands of a soak, and the greatest seed.
+abbrev pub MOST_COMMANDS : ℕ
+MOST_COMMANDS = 100000
 
--- The byte at the front of the first text.
-abbrev pub onto : ℕ → List (List ℕ) → List (List ℕ)
-onto b [] = (b ∷ []) ∷ []
-onto b (t ∷ ts) = (b ∷ t) ∷ ts
+abbrev pub MOST_SEED : ℕ
+MOST_SEED = 2 ^ 64 - 1
 
--- The texts between commas: one more than there are commas.
-abbrev pub parted : List ℕ → List (List ℕ)
-parted [] = [] ∷ []
-parted (b ∷ bs) = if b == 44 then [] ∷ parted bs else onto b (parted bs)
+-- Decimal digits, at least one, without a sign.
+abbrev pub are_digits : List ℕ → Bool
+are_digits text = list_all is_ascii_digit text && nat_le 1 (length text)
 
--- A host's fault is one of the words.
-abbrev pub as_use : {A : Type 0} → Result A HostFault → Result A UseFault
-as_use (Ok x) = Ok x
-as_use (Err e) = Err (fault.Host e)
+-- The number between those two that a word spells; none where it spells no such number.
+abbrev pub number_from : (least most : ℕ) → List ℕ → Option ℕ
+number_from least most text =
+    if are_digits text && nat_le least (digits_value 10 text) && nat_le (digits_value 10 text) most then Some (digits_value 10 text) else None
 
--- The host that a text spells.
-abbrev pub host_in : List ℕ → Result Address UseFault
-host_in text = as_use (reading text)
+-- What a connection string asks for: a run over its deployment (Connection String; URI Options).
+abbrev pub run_of : Result Configuration UriFault → Result Task UseFault
+run_of (Ok settings) = Ok (task.Run settings)
+run_of (Err e) = Err (fault.Uri e)
 
--- The hosts between commas, each once, where it comes first; or the first fault of a host.
-abbrev pub hosts_in : List ℕ → Result (List Address) UseFault
-hosts_in text = read_each host_in (parted text) >>= (λ hosts. Ok (kept_once hosts))
+-- What a seed and a number of commands ask for.
+abbrev pub soak_of : (seed count : Option ℕ) → Result Task UseFault
+soak_of (Some seed) (Some count) = Ok (task.Soak seed count)
+soak_of (Some seed) None = Err fault.Words
+soak_of None count = Err fault.Words
 
--- A dash stands for no set's name (own).
-abbrev pub set_in : List ℕ → Option (List ℕ)
-set_in set = if is_text set (codes "-") then None else Some set
+-- What words that have no dash and are short ask for: `run URI` or `soak SEED N`.
+abbrev pub task_of : List (List ℕ) → Result Task UseFault
+task_of (verb ∷ uri ∷ []) = if is_text verb (codes "run") then run_of (settings_of uri) else Err fault.Words
+task_of (verb ∷ seed ∷ count ∷ []) =
+    if is_text verb (codes "soak") then soak_of (number_from 0 MOST_SEED seed) (number_from 1 MOST_COMMANDS count) else Err fault.Words
+task_of _ = Err fault.Words
 
--- What the words ask for: their form comes first, then the hosts' texts, in order.
-abbrev pub asks_of : List ℕ → List ℕ → List ℕ → List ℕ → Result Asked UseFault
-asks_of verb hosts set db =
-    if not (are_in_form verb hosts set db) then Err fault.Words else
-    hosts_in hosts >>= (λ seeds. Ok (record { hosts = seeds; set_name = set_in set; db = db }))
+-- A dash comes first, then the words' lengths, then their form, then the connection string.
+abbrev pub asks_by : Option ℕ → List (List ℕ) → Result Task UseFault
+asks_by (Some place) words = Err (fault.Dash place)
+asks_by None words = if are_short words then task_of words else Err fault.Words
 
-abbrev pub asks : List (List ℕ) → Result Asked UseFault
-asks (verb ∷ hosts ∷ set ∷ db ∷ []) = asks_of verb hosts set db
-asks _ = Err fault.Words
+abbrev pub asks : List (List ℕ) → Result Task UseFault
+asks words = asks_by (dash_in words) words

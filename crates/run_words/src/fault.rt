@@ -1,10 +1,19 @@
-use host_name::HostFault;
+use conn_uri::UriFault;
+use thiserror::Error;
 
 /// Why words are refused. The first that applies is told, in this order.
-#[derive(Clone, Copy, Debug, PartialEq, Eq)]
+#[derive(Debug, Drop, Error)]
 pub enum UseFault {
-    /// They are not `run HOSTS SET DB`.
+    /// A word begins with a dash: there are no options.
+    #[error("word {place} of the command line begins with a dash")]
+    Dash {
+        /// The word's place, counted from 0.
+        place: u64,
+    },
+    /// They are neither `run URI` nor `soak SEED N`, or a word is longer than 16,777,216 bytes.
+    #[error("the command line is neither `run URI` nor `soak SEED N`")]
     Words,
-    /// The text of a host is at fault, the first that is; this is never `HostFault::Memory`.
-    Host(HostFault),
+    /// The connection string is at fault; this is never `UriFault::Memory`.
+    #[error("{0}")]
+    Uri(UriFault),
 }

@@ -1,5 +1,6 @@
-//! One insert over real sockets: a run of the program's net and clock against a member that a thread serves.
+//! One insert over real sockets: a run of the program's net, clock and dice against a member that a thread serves.
 use crate::machine_clock::MachineClock;
+use crate::machine_dice::MachineDice;
 use crate::socket_net::SocketNet;
 use crate::socket_watch::SocketWatch;
 use bson_doc::{Bytes, Rows, Text};
@@ -11,6 +12,7 @@ use shell_top::{Status, run};
 use std::alloc::{AllocError, Global};
 use std::io::{Read, Write};
 use std::net::{Net, TcpListener};
+use std::random::RandomSource;
 use std::sync::Wait;
 use std::test::Fail;
 use std::thread;
@@ -22,55 +24,76 @@ const SCRIPT: &str = r#"{"lane":1,"op":"insert","coll":"a","doc":{"_id":7}}"#;
 /// What the run reports where the member added the insert.
 const REPORT: &str = "1: ok n=1 modified=0 attempts=1\ndone 1 ok 1\n";
 
-/// Why a client cannot be served: it ended its stream, or sent no message.
+/// Why a client cannot be served: it sent no message.
 #[derive(Debug, Drop)]
 struct NoRequest;
 
-/// The first message of a stream, however it is cut.
-fn request_on(alloc: Global, stream: &mut impl Read) -> Result<Message, Fail> {
+/// The next message of a stream, however it is cut; none where the client ended the stream.
+fn request_on(alloc: Global, stream: &mut impl Read) -> Result<Option<Message>, Fail> {
     let mut held = Vec::new(alloc);
     let mut piece = [0; 64];
     for _ in 0..u64::MAX {
         match read(alloc, held.as_slice()) {
-            Ok(message) => return Ok(message),
+            Ok(message) => return Ok(Some(message)),
             Err(MsgFault::Short { .. }) => {}
             Err(_) => return Err(Fail::from(NoRequest)),
         }
         let count = stream.read(&mut piece)?;
         if count == 0 {
-            return Err(Fail::from(NoRequest));
+            return Ok(None);
         }
         held.extend_from_slice(&piece[..count])?;
     }
-    Err(Fail::from(NoRequest))
+    Ok(None)
 }
 
-/// Has the member answer the first request of the first client.
-fn serve(alloc: Global, listener: &TcpListener, member: &mut Member) -> Result<(), Fail> {
-    let (mut stream, _) = listener.accept()?;
-    let request = request_on(alloc, &mut stream)?;
+/// Has the member answer the next request of a stream, and says whether there was one.
+fn answer_on<S: Read + Write>(
+    alloc: Global,
+    stream: &mut S,
+    member: &mut Member,
+) -> Result<bool, Fail> {
+    let Some(request) = request_on(alloc, stream)? else {
+        return Ok(false);
+    };
     let answer = member.answer(alloc, &request, 0, 0, 0, true)?;
     stream.write_all(answer.bytes.as_slice())?;
+    Ok(true)
+}
+
+/// Has the member answer the first check of a client, and then all that its first connection asks.
+fn serve(alloc: Global, listener: &TcpListener, member: &mut Member) -> Result<(), Fail> {
+    let (mut checks, _) = listener.accept()?;
+    answer_on(alloc, &mut checks, member)?;
+    let (mut stream, _) = listener.accept()?;
+    for _ in 0..u64::MAX {
+        if !answer_on(alloc, &mut stream, member)? {
+            break;
+        }
+    }
     Ok(())
 }
 
-/// Runs the script against that port, by the program's net and clock, and says whether its status is 0.
-fn is_run<R: Net + Clock + Wait>(
+/// Runs the script against that port, by the program's net, clock and dice, and says whether its status is 0.
+fn is_run<R: Net + Clock + Wait + RandomSource>(
     rt: &R,
     alloc: Global,
     port: u16,
     out: &mut VecSink,
 ) -> Result<bool, AllocError> {
-    let host = format!(in alloc; "127.0.0.1:{port}")?;
+    let uri = format!(in alloc; "mongodb://127.0.0.1:{port}/?replicaSet=rs0")?;
     let mut words = Rows::new(alloc);
-    for word in ["run", host.as_str(), "-", "test"] {
+    for word in ["run", uri.as_str()] {
         words.push(Text::take(alloc, word)?)?;
     }
     let mut script = SliceSource::new(Bytes::take(alloc, SCRIPT.as_bytes())?, Rows::new(alloc));
     let watch = SocketWatch::new(alloc, rt);
     let net = SocketNet::new(alloc, rt, &watch);
     let clock = MachineClock::new(rt, &watch);
-    let ended = run(rt, alloc, &words, &mut script, out, net, &clock);
+    let Ok(dice) = MachineDice::new(rt) else {
+        return Ok(false);
+    };
+    let ended = run(rt, alloc, &words, &mut script, out, net, &clock, dice);
     Ok(matches!(ended.status, Status::AllOk))
 }
 
@@ -78,9 +101,9 @@ fn is_run<R: Net + Clock + Wait>(
 fn loopback(rt: HostRuntime) -> Result<(), Fail> {
     let alloc = rt.alloc();
     let listener = TcpListener::bind(&rt, "127.0.0.1:0")?;
-    let port = listener.local_addr()?.port();
+    let port = listener.local_addr()?.port().max(1);
     let settings = Settings {
-        port: 27_017,
+        port,
         set: "rs0",
         turns: 1,
     };

@@ -1,19 +1,23 @@
-//! The program `mdc`: sends a script of inserts to a MongoDB server and reports what came of each.
+//! The program `mdc`: runs a script of commands against a MongoDB deployment and reports what came of each, or runs commands that a
+//! seed gives over members in memory and sums up.
 //!
-//! `mdc run HOST - DB` reads a script from the standard input, one JSON object a line, dials HOST for each command,
-//! sends it as one message (MongoDB wire protocol, OP_MSG), reads one reply and prints a line a command and their count.
-//! [`shell_top::run`] is the top call, over any source, sink, net and clock; its contract says what a run does. [`main`]
-//! makes the real objects, which are the trusted edge: the standard input and output, a net of sockets, the machine's
-//! clock. The net and the clock share a [`socket_watch::SocketWatch`], so that a rest ends when a socket is ready.
+//! `mdc run URI` reads a script from the standard input, one JSON object a line, finds the servers of the deployment that the
+//! connection string URI gives, runs the commands in order, and prints a line a command and their count. `mdc soak SEED N` runs N
+//! commands over a replica set of three that is played in memory, to which happens what SEED gives, and prints seven lines that sum
+//! up. [`shell_top::run`] is the top call, over any source, sink, net, clock and dice; its contract says what a run does. [`main`]
+//! makes the real objects, which are the trusted edge: the standard input and output, a net of sockets, the machine's clock, and
+//! dice of a seed that the system drew. The net and the clock share a [`socket_watch::SocketWatch`], so that a rest ends when a
+//! socket is ready. A soak uses the standard output alone.
 //!
-//! It ends with the status of the run: 0 where every line is ok, 1 where some line is not, 2 where the words are refused,
-//! 3 where the script is, 4 where the script could not be read, 5 where the report could not be written, 6 where memory
-//! ran out. For 2 to 6 it prints one line on standard error.
+//! It ends with the status of the run: 0 where every command's answer is ok, 1 where some answer is not, 2 where the words are
+//! refused, 3 where the script is, 4 where the script could not be read, 5 where what was to be printed could not be written, 6
+//! where memory ran out, or where the system gave no seed. For 2 to 6 it prints one line on standard error.
 #![tactic(auto)]
 
 #[cfg(test)]
 mod loopback;
 mod machine_clock;
+mod machine_dice;
 mod socket_net;
 mod socket_watch;
 mod standard_input;
@@ -23,6 +27,8 @@ mod tests;
 
 use bson_doc::{Rows, Text};
 use machine_clock::MachineClock;
+use machine_dice::MachineDice;
+use run_words::{WordStop, read_words};
 use shell_top::{Status, UseFault, run};
 use socket_net::SocketNet;
 use socket_watch::SocketWatch;
@@ -33,17 +39,27 @@ use std::process::ExitCode;
 use std::{env, io};
 
 fn main(rt: HostRuntime) -> ExitCode {
-    let status = match words_of(&rt) {
-        Ok(words) => {
+    let status = match (words_of(&rt), MachineDice::new(&rt)) {
+        (Ok(words), Ok(dice)) => {
             let mut script = StandardInput::new(rt.reader());
             let mut out = StandardOutput::new(&rt);
             let watch = SocketWatch::new(rt.alloc(), &rt);
             let net = SocketNet::new(rt.alloc(), &rt, &watch);
             let clock = MachineClock::new(&rt, &watch);
-            let ended = run(&rt, rt.alloc(), &words, &mut script, &mut out, net, &clock);
+            let ended = run(
+                &rt,
+                rt.alloc(),
+                &words,
+                &mut script,
+                &mut out,
+                net,
+                &clock,
+                dice,
+            );
             ended.status
         }
-        Err(status) => status,
+        (Err(status), _) => status,
+        (Ok(words), Err(_)) => without_dice(&rt, &words),
     };
     // A complaint that cannot be printed changes nothing: the status tells it.
     let _ = complain(&rt, &status);
@@ -69,6 +85,14 @@ fn words_of(rt: &HostRuntime) -> Result<Rows<Text>, Status> {
         };
     }
     Ok(words)
+}
+
+/// The status of a run, or of a soak, for which the system gave no seed: words that are refused are told first.
+fn without_dice(rt: &HostRuntime, words: &Rows<Text>) -> Status {
+    match read_words(rt.alloc(), words.as_slice()) {
+        Err(WordStop::Fault(fault)) => Status::Usage(fault),
+        Err(WordStop::Memory) | Ok(_) => Status::Memory,
+    }
 }
 
 /// Prints the line on standard error for a run without a whole report.

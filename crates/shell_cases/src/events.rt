@@ -7,12 +7,8 @@ use std::alloc::Global;
 /// How many events the fact `last` shows.
 const LAST: usize = 2;
 
-/// Where the lowest byte of requestID stands in a message.
-const ID_AT: usize = 4;
-
 /// The fact of that name about what happened on the net: how many `events` there are, what the `last` two were, which
-/// addresses were `dialled`, what was `sent`, a write each, with which `ids`, the lowest bytes of their requestIDs, what
-/// `came`, in one piece, and how many streams were `closed`.
+/// addresses were `dialled`, what was `sent`, a write each, what `came`, in one piece, and how many streams were `closed`.
 pub fn event_fact(
     alloc: Global,
     known: &Known,
@@ -29,7 +25,7 @@ pub fn event_fact(
             line.push_str(" ")?;
             known.push_name(&mut line, bytes.as_slice())?;
         }
-        "dialled" | "sent" | "ids" => {
+        "dialled" | "sent" => {
             for event in events {
                 push_event(&mut line, known, name, event)?;
             }
@@ -53,10 +49,6 @@ fn push_event(
             line.push_str(" ")?;
             known.push_name(line, bytes.as_slice())
         }
-        NetEvent::Out { bytes, .. } if name == "ids" => match bytes.as_slice().get(ID_AT) {
-            Some(id) => write!(line, " {id}"),
-            None => line.push_str(" none"),
-        },
         _ => Ok(()),
     }
 }

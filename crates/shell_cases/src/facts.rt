@@ -1,8 +1,9 @@
 //! The facts, each by its first word:
 //!
 //! - of bytes that have a name, how many there are, `length`;
-//! - of a run, its `status`, why its words are refused, `usage`, what was written, `out`, how its shots ended, `shots`, their
-//!   requests, `requests`, and streams, `streams`, where they have one; and the facts of [`event_fact`].
+//! - of a run, its `status`, why its words are refused, `usage`, what was written, `out`, and how many `members` a soak left;
+//!   of its trail how many `entries` there are, which `hosts` were named, how its `attempts` ended, with their commands'
+//!   numbers, the `requests` of commands, with their `ids`; and the facts of [`event_fact`].
 //!
 //! Bytes go by the first name that has them, and in hexadecimal where none has.
 use crate::events::event_fact;
@@ -11,8 +12,11 @@ use crate::quoted::push_quoted;
 use crate::runs::Run;
 use crate::state::Told;
 use case_files::{CaseFault, Memory};
-use shell_top::{Shot, ShotEnd, Status, UseFault};
+use conn_uri::UriFault;
+use desk_trail::{Entry, Purpose, Request, Trail};
+use shell_top::{Status, UseFault};
 use std::alloc::Global;
+use write_retry::{AttemptEnd, Unsent};
 
 /// The fact of that name behind the last step.
 pub fn fact_of(
@@ -44,16 +48,18 @@ fn run_fact(
             Status::Usage(fault) => push_use_fault(&mut line, fault)?,
             _ => line.push_str(" none")?,
         },
+        "members" => match &run.ended.soaked {
+            Some(hall) => write!(&mut line, " {}", hall.members())?,
+            None => line.push_str(" 0")?,
+        },
         "out" => {
             line.push_str(" ")?;
             push_quoted(&mut line, run.out.written())?;
         }
-        "shots" | "requests" | "streams" => {
-            for shot in run.ended.shots.as_slice() {
-                line.push_str(" ")?;
-                push_shot(&mut line, known, name, shot)?;
-            }
-        }
+        "entries" => write!(&mut line, " {}", run.ended.trail.steps.len())?,
+        "hosts" => push_hosts(&mut line, &run.ended.trail)?,
+        "attempts" => push_attempts(&mut line, &run.ended.trail)?,
+        "requests" | "ids" => push_requests(&mut line, known, name, &run.ended.trail)?,
         _ => return event_fact(alloc, known, run.ended.net.events(), name),
     }
     Ok(Some(line))
@@ -61,27 +67,88 @@ fn run_fact(
 
 fn push_use_fault(line: &mut String, fault: &UseFault) -> Result<(), Memory> {
     match fault {
+        UseFault::Dash { place } => write!(line, " dash {place}"),
         UseFault::Words => line.push_str(" words"),
-        UseFault::Later => line.push_str(" later"),
-        UseFault::Host(fault) => write!(line, " host {fault:?}"),
+        UseFault::Uri(fault) => {
+            line.push_str(" uri ")?;
+            push_uri_fault(line, fault)
+        }
     }
 }
 
-/// What the fact says of one shot.
-fn push_shot(line: &mut String, known: &Known, name: &str, shot: &Shot) -> Result<(), Memory> {
-    match name {
-        "shots" => push_end(line, shot.end),
-        "requests" => known.push_name(line, shot.request.as_slice()),
-        _ => match shot.stream {
-            Some(stream) => write!(line, "{stream}"),
-            None => line.push_str("none"),
-        },
+fn push_uri_fault(line: &mut String, fault: &UriFault) -> Result<(), Memory> {
+    match fault {
+        UriFault::Scheme => line.push_str("Scheme"),
+        UriFault::Credentials => line.push_str("Credentials"),
+        UriFault::Escape { at } => write!(line, "Escape {at}"),
+        UriFault::Host(fault) => write!(line, "Host {fault:?}"),
+        UriFault::Left { name } => write!(line, "Left {}", name.as_str()),
+        UriFault::Clash(clash) => write!(line, "Clash {clash:?}"),
+        UriFault::Memory => line.push_str("Memory"),
     }
 }
 
-fn push_end(line: &mut String, end: ShotEnd) -> Result<(), Memory> {
+/// The hosts that were named, in order.
+fn push_hosts(line: &mut String, trail: &Trail) -> Result<(), Memory> {
+    for host in trail.names.as_slice() {
+        write!(line, " {host}")?;
+    }
+    Ok(())
+}
+
+/// The attempts that ended, each as its command's number, from 1, and its end.
+fn push_attempts(line: &mut String, trail: &Trail) -> Result<(), Memory> {
+    for step in trail.steps.as_slice() {
+        if let Entry::Ended { op, end } = &step.entry {
+            write!(line, " {}:", op.saturating_add(1))?;
+            push_end(line, end)?;
+        }
+    }
+    Ok(())
+}
+
+fn push_end(line: &mut String, end: &AttemptEnd) -> Result<(), Memory> {
     match end {
-        ShotEnd::Bad { at } => write!(line, "Bad:{at}"),
-        _ => write!(line, "{end:?}"),
+        AttemptEnd::Replied(_) => line.push_str("Replied"),
+        AttemptEnd::Cut => line.push_str("Cut"),
+        AttemptEnd::Fault => line.push_str("Fault"),
+        AttemptEnd::TimedOut => line.push_str("TimedOut"),
+        AttemptEnd::Bad { at } => write!(line, "Bad:{at}"),
+        AttemptEnd::Unsent(unsent) => push_unsent(line, unsent),
     }
+}
+
+fn push_unsent(line: &mut String, unsent: &Unsent) -> Result<(), Memory> {
+    match unsent {
+        Unsent::TooLarge { .. } => line.push_str("TooLarge"),
+        _ => write!(line, "{unsent:?}"),
+    }
+}
+
+/// What the fact says of each request of a command.
+fn push_requests(
+    line: &mut String,
+    known: &Known,
+    name: &str,
+    trail: &Trail,
+) -> Result<(), Memory> {
+    for request in trail.requests.as_slice() {
+        if let Purpose::Command { .. } = request.purpose {
+            push_request(line, known, name, request)?;
+        }
+    }
+    Ok(())
+}
+
+fn push_request(
+    line: &mut String,
+    known: &Known,
+    name: &str,
+    request: &Request,
+) -> Result<(), Memory> {
+    if name == "ids" {
+        return write!(line, " {}", request.id);
+    }
+    line.push_str(" ")?;
+    known.push_name(line, request.bytes.as_slice())
 }

@@ -1,12 +1,15 @@
 use case_files::{CaseFault, Memory, hex_bytes, push_hex};
 use std::alloc::Global;
 
+/// The text of a word that stands in quotes.
+pub fn in_quotes(word: &str) -> Option<&str> {
+    word.strip_prefix('"')
+        .and_then(|rest| rest.strip_suffix('"'))
+}
+
 /// Appends the bytes of a word: a text in quotes, or hexadecimal digits, two a byte.
 pub fn push_word(alloc: Global, bytes: &mut Vec<u8>, word: &str) -> Result<(), CaseFault> {
-    match word
-        .strip_prefix('"')
-        .and_then(|rest| rest.strip_suffix('"'))
-    {
+    match in_quotes(word) {
         Some(text) => bytes.extend_from_slice(text.as_bytes())?,
         None => bytes.extend_from_slice(&hex_bytes(alloc, word)?)?,
     }

@@ -1,7 +1,10 @@
+ghost use Rattle.std.specs.Prelude.{◌≡◌, [], IfOk};
+
 use crate::known::Known;
+use crate::quoted::in_quotes;
 use bson_doc::{Bytes, Rows, Text};
 use case_files::{CaseFault, Words, hex_bytes, parsed};
-use net_link::{ScriptNet, SliceSource, StreamPlan, TickClock, VecSink};
+use net_link::{ListDice, ScriptNet, SliceSource, StreamPlan, TickClock, VecSink};
 use shell_top::{Ended, run};
 use std::alloc::Global;
 use std::sync::Wait;
@@ -15,7 +18,7 @@ const ROOM: u32 = 4_096;
 /// What a run left.
 #[derive(Drop)]
 pub struct Run {
-    /// The status, the net and the shots.
+    /// The status, the net and the trail.
     pub ended: Ended<ScriptNet>,
     /// What was written.
     pub out: VecSink,
@@ -23,11 +26,12 @@ pub struct Run {
 
 /// Runs a script: `mdc WORD.. [script=NAME] [unreadable=N,..] [streams=NAME,..] [most=N] [fails=N,..] [step=N] [room=N]`.
 ///
-/// The words are those of the command line; `""` is an empty one, and `hex:` stands ahead of one in hexadecimal. The script
-/// is the bytes of that name, of which the reads with these numbers fail. The k-th dial gets the k-th stream, which gives
-/// the bytes of that name, at most so many a read; where a point stands behind the name the peer ends behind them. Of the
-/// net's calls those with the numbers in `fails` fail. The clock begins at 0 and goes on by so many microseconds at each
-/// look. The report has room for so many bytes.
+/// The words are those of the command line; one that is empty, or has a sign of equality, stands in quotes, and `hex:` stands
+/// ahead of one in hexadecimal. The script is the bytes of that name, of which the reads with these numbers fail. The k-th
+/// dial gets the k-th stream, which gives the bytes of those names, which plus signs join, at most so many a read; where a
+/// point stands behind them the peer ends there. Of the net's calls those with the numbers in `fails` fail. The clock begins
+/// at 0 and goes on by so many microseconds at each look. What is written has room for so many bytes. The dice roll 1, 2 and
+/// so on to 8, and again from 1.
 pub fn ran<R: Wait>(
     rt: &R,
     alloc: Global,
@@ -40,7 +44,8 @@ pub fn ran<R: Wait>(
     let room: u32 = words.number(alloc, "room")?.unwrap_or(ROOM);
     let mut out = VecSink::new(alloc, room as usize, Rows::new(alloc))?;
     let line = command_line(alloc, words)?;
-    let ended = run(rt, alloc, &line, &mut script, &mut out, net, &clock);
+    let dice = dice(alloc)?;
+    let ended = run(rt, alloc, &line, &mut script, &mut out, net, &clock, dice);
     Ok(Run { ended, out })
 }
 
@@ -53,7 +58,9 @@ fn source(alloc: Global, known: &Known, words: &mut Words<'_>) -> Result<SliceSo
     Ok(SliceSource::new(bytes, fails))
 }
 
-fn net(alloc: Global, known: &Known, words: &mut Words<'_>) -> Result<ScriptNet, CaseFault> {
+fn net(alloc: Global, known: &Known, words: &mut Words<'_>) -> Result<ScriptNet, CaseFault>
+    ensures fresh { IfOk result (λ net. net.events ≡ []) }
+{
     let most = words.number(alloc, "most")?.unwrap_or(ROOM);
     let fails = numbers(alloc, words.value("fails"))?;
     let mut plans = Rows::new(alloc);
@@ -64,13 +71,28 @@ fn net(alloc: Global, known: &Known, words: &mut Words<'_>) -> Result<ScriptNet,
                 None => (name, false),
             };
             plans.push(StreamPlan {
-                bytes: known.find(alloc, name)?,
+                bytes: joined(alloc, known, name)?,
                 most,
                 ends,
             })?;
         }
     }
     Ok(ScriptNet::new(alloc, plans, fails))
+}
+
+/// The bytes of the names between plus signs, one behind the other.
+fn joined(alloc: Global, known: &Known, names: &str) -> Result<Bytes, CaseFault> {
+    let mut all = Vec::new(alloc);
+    for name in names.split('+') {
+        all.extend_from_slice(known.find(alloc, name)?.as_slice())?;
+    }
+    Ok(Bytes::from_vec(all))
+}
+
+/// The words 1 to 8.
+fn dice(alloc: Global) -> Result<ListDice, CaseFault> {
+    let words = Rows::take(alloc, &[1, 2, 3, 4, 5, 6, 7, 8])?;
+    Ok(ListDice::new(words))
 }
 
 /// The numbers between commas; none where there is no word.
@@ -84,21 +106,22 @@ fn numbers(alloc: Global, word: Option<&str>) -> Result<Rows<u64>, CaseFault> {
     Ok(numbers)
 }
 
-/// The words of the command line, which are all that are left. One with a sign of equality is none of them.
+/// The words of the command line, which are all that are left.
 fn command_line(alloc: Global, words: &mut Words<'_>) -> Result<Rows<Text>, CaseFault> {
     let mut line = Rows::new(alloc);
     for word in words.rest(alloc) {
-        if word.contains('=') {
-            return Err(CaseFault::word(alloc, word));
-        }
         line.push(argument(alloc, word)?)?;
     }
     Ok(line)
 }
 
+/// The word of the command line that a word stands for. One with a sign of equality, and without quotes, is none.
 fn argument(alloc: Global, word: &str) -> Result<Text, CaseFault> {
-    if word == "\"\"" {
-        return Ok(Text::new(alloc));
+    if let Some(text) = in_quotes(word) {
+        return Ok(Text::take(alloc, text)?);
+    }
+    if word.contains('=') {
+        return Err(CaseFault::word(alloc, word));
     }
     let Some(hex) = word.strip_prefix("hex:") else {
         return Ok(Text::take(alloc, word)?);

@@ -1,6 +1,7 @@
-mod MeansLemmas
-mod ReplyLemmas
+mod GoingLemmas
 mod ReportLemmas
-mod RequestLemmas
 mod RunLemmas
-mod SendingLemmas
+mod ScriptLemmas
+mod SettingLemmas
+mod SoakLemmas
+mod SumLemmas

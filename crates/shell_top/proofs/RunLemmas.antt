@@ -1,137 +1,97 @@
--- What the parts of a run say of the whole.
-use Rattle.std.proofs.Common.{◌≡◌, ℕ, ◌≤◌, Result, Ok, Err, List, [], ◌∷◌, ◌++◌, length, take, refl, sym, ap, subst, ◌∙◌, arith, All, inl, inr, ◌⊎◌}
-use Rattle.std.proofs.lemmas.List.{take_all}
-use Rattle.net_link.specs.Causes.{HasCause}
-use Rattle.net_link.specs.declared.event.NetEvent.{NetEvent}
+-- What a client did in a run, from its beginning to its end.
+use Rattle.std.proofs.Common.{◌≡◌, inl, inr, ℕ, Bool, true, false, ◌||◌, List, ◌++◌, Result, Ok, Err, refl, sym, ap, ◌∙◌, subst, arith}
+use Rattle.std.specs.Prelude.{IsOk, OnOk}
+use Rattle.std.specs.List.{list_all}
+use Rattle.std.proofs.lemmas.List.Elements.{All-append}
 use Rattle.cmd_build.specs.declared.command.Command.{Command}
-use Rattle.script_text.specs.Scripts.{script_reading}
-use Rattle.script_text.specs.Taken.{Reads}
-use Rattle.script_text.specs.declared.fault.ScriptFault.{ScriptFault}
-use Rattle.script_text.specs.declared.fault.ScriptRead.TheVariants as stop
-use Rattle.shell_top.specs.Requests.{AreShotsOf}
-use Rattle.shell_top.specs.Run.{IsDone, IsReached, IsScripts, ReadsScript, Refuses, ShootsAll, Shoots, Tells}
-use Rattle.shell_top.specs.Wired.{AreMade, AreSentOnce}
-use Rattle.shell_top.specs.declared.shot.Shot.{Shot}
+use Rattle.entry_judge.specs.declared.timed.Timed.{Timed}
+use Rattle.desk_trail.specs.declared.step.Step.{Step}
+use Rattle.desk_trail.specs.Clients.{Client}
+use Rattle.desk_trail.specs.Facts.{Fact, facts_of}
+use Rattle.desk_trail.specs.Legal.{IsComplete, IsLegal, point_behind}
+use Rattle.desk_trail.specs.Written.{lists_of}
+use Rattle.desk_core.specs.Appends.{tell_fault}
+use Rattle.desk_core.specs.Ending.{ArePoolsShut}
+use Rattle.desk_core.specs.State.{Desk}
+use Rattle.desk_core.specs.declared.finished.Finished.{Finished}
+use Rattle.shell_top.specs.Going.{AreShown, Begins, Ends, GoesOn, IsShown}
+use Rattle.conn_uri.specs.Configurations.{Configuration}
+use Rattle.desk_trail.specs.declared.trail.Trail.{Trail}
+use Rattle.trail_tally.specs.Tallies.{tallies_of}
+use Rattle.trail_tally.specs.declared.tally.Tally.{Tally}
+use Rattle.shell_top.specs.Report.{is_ok_tally, report, report_by}
+use Rattle.shell_top.specs.Run.{Did, IsDone, Reports, Runs, RunsGiven, Shows, Tells, Writes}
+use Rattle.trail_tally.specs.Tallies.{AreAnswered}
 use Rattle.shell_top.specs.declared.status.Status.{Status}
-use Rattle.shell_top.specs.declared.status.Status.TheVariants as status
-use Rattle.script_text.proofs.ReadLemmas.{read-short, reading-of_source}
-use Rattle.shell_top.proofs.SendingLemmas.{AreSentOnce-none, made_none}
+use Rattle.shell_top.proofs.GoingLemmas.{AnswersStay, rose-later, some-stays, tell_fault-append}
 
--- ---- what was read of the source
+middle : (a b c : Bool) → ((a || b) || c) ≡ true → a ≡ false → c ≡ false → b ≡ true
+middle true b c e none last = absurd (let never : ⊥ = cc in never)
+middle false true c e none last = refl
+middle false false c e none last = absurd (let never : ⊥ = cc in never)
 
-pub tells-ok : {tells : Type 0} (old new : List ℕ) (commands : List Command) → Reads tells old new (Ok commands) → Tells tells old (Ok commands)
-tells-ok old new commands reads = record {
-  text = reads.bytes;
-  says = reads.says;
-  of_source = λ t. ap script_reading (reads.taken.front t) ∙ reading-of_source reads.bytes new (reads.whole t tt) ∙ reads.says;
+-- It began so, went on so, and ended so.
+pub did : {N P : Type 0} (law : AnswersStay) (shows : ℕ → Type 0) (faults : N → ℕ) (fits : Client → List (Timed Fact) → Type 0) (first last : Desk N P) (end : Finished N P) (s : Status) →
+    Begins shows first → GoesOn shows faults first last → Ends shows faults fits last end → (IsDone s → last.is_stopped ≡ false) →
+    (IsDone s → AreAnswered last.trail.client.commands last.trail.steps) → Did shows faults fits first.net end.net first.trail.client s end.trail
+did law shows faults fits first last end s begins goes ends runs answered = record {
+  began = begins.began;
+  legal = subst (λ (c : Client). IsLegal c (lists_of end.trail) end.trail.steps) goes.client ends.legal;
+  of_net = subst (λ (c : Client). fits c (facts_of (lists_of end.trail) end.trail.steps)) goes.client ends.of_net;
+  complete = λ done. subst (λ (c : Client). IsComplete c (lists_of end.trail) end.trail.steps) goes.client (ends.complete (runs done));
+  shut = λ done. subst (λ (c : Client). ArePoolsShut (point_behind c (facts_of (lists_of end.trail) end.trail.steps)).state) goes.client (ends.shut (runs done));
+  answered = λ done op command there. some-stays law op last.trail.steps end.trail.steps ends.added ends.steps
+      (subst (λ (c : Client). AreAnswered c.commands last.trail.steps) goes.client (answered done) op command there);
+  moments = subst (AreShown shows) (sym steps) (All-append (λ (t : Step). IsShown shows t.moment) (first.trail.steps ++ goes.added) ends.added
+      (All-append (λ (t : Step). IsShown shows t.moment) first.trail.steps goes.added begins.moments (goes.moments begins.last)) (ends.moments (goes.last begins.last)));
+  later = omega (arith, goes.later, ends.later);
+  told = λ e. rose-later (faults first.net) (faults last.net) (faults end.net) (goes.told (middle (tell_fault first.trail.steps) (tell_fault goes.added) (tell_fault ends.added)
+      (sym parts ∙ ap tell_fault (sym steps) ∙ e) begins.faultless ends.faultless)) ends.later;
 }
+  where
+    steps : end.trail.steps ≡ (first.trail.steps ++ goes.added) ++ ends.added
+    steps = ends.steps ∙ ap (λ (l : List Step). l ++ ends.added) goes.steps
 
-pub tells-fault : {tells : Type 0} (old new : List ℕ) (fault : ScriptFault) → Reads tells old new (Err (stop.Fault fault)) → Tells tells old (Err fault)
-tells-fault old new fault reads = record {
-  text = reads.bytes;
-  says = reads.says;
-  of_source = λ t. ap script_reading (reads.taken.front t) ∙ reading-of_source reads.bytes new (reads.whole t tt) ∙ reads.says;
+    parts : tell_fault ((first.trail.steps ++ goes.added) ++ ends.added) ≡ ((tell_fault first.trail.steps || tell_fault goes.added) || tell_fault ends.added)
+    parts = tell_fault-append (first.trail.steps ++ goes.added) ends.added ∙ ap (λ (b : Bool). b || tell_fault ends.added) (tell_fault-append first.trail.steps goes.added)
+
+-- The report is of the client's trail.
+pub reports : {A N P : Type 0} (tells : Type 0) (written_to : A → List ℕ) (old new : A) (client last : Client) (end : Finished N P) (ts : List Tally) (s : Status) → last ≡ client →
+    end.settings ≡ last.settings → ts ≡ tallies_of last.commands end.trail.steps → Shows s (list_all is_ok_tally ts) →
+    (tells → Writes s (report_by end.settings.warnings end.trail.names ts) (written_to old) (written_to new)) → Reports tells written_to old new client s end.trail
+reports tells written_to old new client last end ts s same settings told verdict written = record {
+  verdict = subst (Shows s) (ap (list_all is_ok_tally) ours) verdict;
+  written = λ t. subst (λ (w : List ℕ). Writes s w (written_to old) (written_to new)) whole (written t);
 }
+  where
+    ours : ts ≡ tallies_of client.commands end.trail.steps
+    ours = told ∙ ap (λ (c : Client). tallies_of c.commands end.trail.steps) same
 
-pub tells-as : {tells : Type 0} (source : List ℕ) (xs cs : List Command) → xs ≡ cs → Tells tells source (Ok cs) → Tells tells source (Ok xs)
-tells-as {tells = tells} source xs cs same script = subst (λ ys. Tells tells source (Ok ys)) (sym same) script
+    whole : report_by end.settings.warnings end.trail.names ts ≡ report client end.trail
+    whole = ap (λ (w : Configuration). report_by w.warnings end.trail.names ts) (settings ∙ ap (λ (c : Client). c.settings) same)
+        ∙ ap (report_by client.settings.warnings end.trail.names) ours
 
--- ---- a run whose script was read
+-- A client of the settings and commands is that of the words and the script.
+pub runs-so : {A B : Type 0} (tells : Type 0) (source : List ℕ) (asked : Configuration) (commands : List Command) (shows : ℕ → Type 0) (faults : A → ℕ) (fits : Client → List (Timed Fact) → Type 0)
+    (net net_now : A) (out_tells : Type 0) (written_to : B → List ℕ) (old new : B) (s : Status) (trail : Trail) → Tells tells source (Ok commands) →
+    RunsGiven asked commands shows faults fits net net_now out_tells written_to old new s trail →
+    Runs tells source asked shows faults fits net net_now out_tells written_to old new s trail
+runs-so tells source asked commands shows faults fits net net_now out_tells written_to old new s trail told (inl r) = inl (record {
+  client = r.client;
+  of_words = record {
+    settings = r.given_settings;
+    commands = subst (λ (cs : List Command). Tells tells source (Ok cs)) (sym r.given_commands) told;
+  };
+  did = r.did;
+  reports = r.reports;
+})
+runs-so tells source asked commands shows faults fits net net_now out_tells written_to old new s trail told (inr r) = inr r
 
--- A script that has commands is not refused.
-pub not-refused : {tells : Type 0} (source : List ℕ) (commands : List Command) (fault : ScriptFault) (s : Status) → Tells tells source (Ok commands) → tells
-    → script_reading source ≡ Err fault → Refuses fault s
-not-refused source commands fault s script t e = absurd (let ok : script_reading source ≡ Ok commands = script.of_source t in let never : ⊥ = cc in never)
+-- An equal text was written.
+pub writes-same : (s : Status) (text whole old new : List ℕ) → text ≡ whole → Writes s text old new → Writes s whole old new
+writes-same s text whole old new same w = subst (λ (t : List ℕ). Writes s t old new) same w
 
-pub refused-so : {tells : Type 0} (source : List ℕ) (told fault : ScriptFault) (s : Status) → s ≡ status.Script told → Tells tells source (Err told) → tells
-    → script_reading source ≡ Err fault → Refuses fault s
-refused-so source told fault s is script t e =
-    let err : script_reading source ≡ Err told = script.of_source t in
-    let same : told ≡ fault = cc in
-    subst (Refuses fault) (sym is) same
-
-all-shots : {tells : Type 0} (source db : List ℕ) (commands : List Command) (shots : List Shot) → Tells tells source (Ok commands)
-    → AreShotsOf db 1 (take (length shots) commands) shots → length shots ≡ length commands → ShootsAll tells source db shots
-all-shots source db commands shots script each count = record {
-  commands = commands;
-  script = script;
-  each = subst (λ cs. AreShotsOf db 1 cs shots) (take_all (length shots) commands (omega arith)) each;
-}
-
-pub reached-shoots : {tells : Type 0} (source db : List ℕ) (commands : List Command) (s : Status) (shots : List Shot) → Tells tells source (Ok commands) → IsReached s
-    → AreShotsOf db 1 (take (length shots) commands) shots → (IsDone s → length shots ≡ length commands) → Shoots tells source db s shots
-reached-shoots source db commands (status.Usage fault) shots script reached each all = absurd reached
-reached-shoots source db commands (status.Script fault) shots script reached each all = absurd reached
-reached-shoots source db commands status.ReadFault shots script reached each all = absurd reached
-reached-shoots source db commands status.AllOk shots script reached each all = all-shots source db commands shots script each (all tt)
-reached-shoots source db commands status.SomeFailed shots script reached each all = all-shots source db commands shots script each (all tt)
-reached-shoots source db commands status.WriteFault shots script reached each all = all-shots source db commands shots script each (all tt)
-reached-shoots source db commands status.Memory shots script reached each all = inr (record { commands = commands; script = script; each = each })
-
--- ---- a run that ended before its first command
-
-pub once-before : (address : List ℕ) (rs : List (List ℕ)) (old new : List NetEvent) → new ≡ old → AreSentOnce address rs old new
-once-before address rs old new same = subst (λ h. AreSentOnce address rs old h) (sym same) (AreSentOnce-none address rs old)
-
-pub made-before : {A : Type 0} {tells : Type 0} (shows : ℕ → Type 0) (address : List ℕ) (history : A → List NetEvent) (faults : A → ℕ) (old new : A) (done : Type 0) (ss : List Shot)
-    → new ≡ old → ss ≡ [] → AreMade shows address tells history faults old new done ss
-made-before {tells = tells} shows address history faults old new done ss same none =
-    subst (λ n. AreMade shows address tells history faults old n done ss) (sym same) (made_none shows address history faults old done ss none)
-
--- ---- what was left of the script
-
--- Where its commands were sent, nothing.
-pub read_to_end : {tells : Type 0} (old new : List ℕ) (commands : List Command) → Reads tells old new (Ok commands) → tells → new ≡ []
-read_to_end old new commands reads t = reads.whole t tt (read-short reads.bytes commands reads.says)
-
--- ---- what a run says of its script, by what was read
-
-unrefused : (tells : Type 0) (source : List ℕ) (s : Status) → IsReached s → IsScripts tells source s
-unrefused tells source (status.Usage fault) reached = absurd reached
-unrefused tells source (status.Script fault) reached = absurd reached
-unrefused tells source status.ReadFault reached = absurd reached
-unrefused tells source status.AllOk reached = tt
-unrefused tells source status.SomeFailed reached = tt
-unrefused tells source status.WriteFault reached = tt
-unrefused tells source status.Memory reached = tt
-
-pub script-read : {A : Type 0} {tells : Type 0} (left : A → List ℕ) (faults : A → ℕ) (old new : A) (commands : List Command) (s : Status)
-    → Reads tells (left old) (left new) (Ok commands) → faults old ≤ faults new → IsReached s → ReadsScript tells left faults old new s
-script-read {tells = tells} left faults old new commands s reads later reached = record {
-  refused = unrefused tells (left old) s reached;
-  in_script = λ t fault e. not-refused (left old) commands fault s (tells-ok (left old) (left new) commands reads) t e;
-  cause = record { later = later; rose = λ is. absurd (subst IsReached is reached) };
-  whole = λ t done. read_to_end (left old) (left new) commands reads t;
-}
-
-pub script-refused : {A : Type 0} {tells : Type 0} (left : A → List ℕ) (faults : A → ℕ) (old new : A) (told : ScriptFault) (s : Status)
-    → Reads tells (left old) (left new) (Err (stop.Fault told)) → faults old ≤ faults new → s ≡ status.Script told → ReadsScript tells left faults old new s
-script-refused {tells = tells} left faults old new told s reads later is =
-    let script = tells-fault (left old) (left new) told reads in
-    record {
-      refused = subst (IsScripts tells (left old)) (sym is) script;
-      in_script = λ t fault e. refused-so (left old) told fault s is script t e;
-      cause = record { later = later; rose = λ other. absurd (let never : ⊥ = cc in never) };
-      whole = λ t done. absurd (subst IsDone is done);
-    }
-
--- The status says nothing of the script.
-abbrev IsUnsaid : Status → Type 0
-IsUnsaid (status.Usage fault) = Unit {0}
-IsUnsaid status.ReadFault = Unit {0}
-IsUnsaid status.Memory = Unit {0}
-IsUnsaid _ = ⊥
-
-unsaid : {A : Type 0} {tells : Type 0} (left : A → List ℕ) (faults : A → ℕ) (old new : A) (s : Status) → IsUnsaid s → HasCause (faults old) (faults new) (s ≡ status.ReadFault)
-    → ReadsScript tells left faults old new s
-unsaid left faults old new (status.Usage fault) says cause = record { refused = tt; in_script = λ t f e. tt; cause = cause; whole = λ t done. absurd done }
-unsaid left faults old new status.ReadFault says cause = record { refused = tt; in_script = λ t f e. tt; cause = cause; whole = λ t done. absurd done }
-unsaid left faults old new status.Memory says cause = record { refused = tt; in_script = λ t f e. tt; cause = cause; whole = λ t done. absurd done }
-unsaid left faults old new (status.Script fault) says cause = absurd says
-unsaid left faults old new status.AllOk says cause = absurd says
-unsaid left faults old new status.SomeFailed says cause = absurd says
-unsaid left faults old new status.WriteFault says cause = absurd says
-
-pub script-unsaid : {A : Type 0} {tells : Type 0} (left : A → List ℕ) (faults : A → ℕ) (old new : A) (s t : Status) → s ≡ t → IsUnsaid t
-    → HasCause (faults old) (faults new) (s ≡ status.ReadFault) → ReadsScript tells left faults old new s
-script-unsaid left faults old new s t is says cause = unsaid left faults old new s (subst IsUnsaid (sym is) says) cause
+-- What holds where memory was not wanting.
+pub on-ok : {A B C : Type 0} (r : Result A B) → OnOk r C → IsOk r → C
+on-ok (Ok a) holds is = holds
+on-ok (Err e) holds is = absurd (let never : ⊥ = cc in never)

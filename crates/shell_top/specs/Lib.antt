@@ -1,8 +1,5 @@
-pub mod Asking
-pub mod Conversation
-pub mod Replies
+pub mod Going
 pub mod Report
-pub mod Requests
 pub mod Run
-pub mod Wired
-pub mod Words
+pub mod Summary
+pub mod Soak

@@ -1,17 +1,28 @@
--- What a run says by its status, its shots and its output.
-use Rattle.std.specs.Prelude.{◌≡◌, ◌<◌, ◌⊎◌, ℕ, Bool, true, false, List, [], ◌∷◌, ◌++◌, length, take, Result, Ok, Err}
+-- What a run says by its status, its trail and its output.
+use Rattle.std.specs.Prelude.{◌≡◌, ◌<◌, ◌≤◌, ◌⊎◌, ℕ, Bool, true, false, List, [], ◌++◌, length, Result, Ok, Err}
 use Rattle.std.specs.List.{list_all}
-use Rattle.net_link.specs.Causes.{HasCause}
+use Rattle.net_link.specs.Causes.{HasCause, Rose}
 use Rattle.net_link.specs.Prefix.{IsPrefixOf}
 use Rattle.net_link.specs.declared.event.NetEvent.{NetEvent}
+use Rattle.entry_judge.specs.declared.timed.Timed.{Timed}
 use Rattle.cmd_build.specs.declared.command.Command.{Command}
+use Rattle.conn_uri.specs.Configurations.{Configuration}
+use Rattle.run_words.specs.declared.fault.UseFault.{UseFault}
+use Rattle.run_words.specs.declared.fault.UseFault.TheVariants as use_fault
 use Rattle.script_text.specs.Scripts.{script_reading}
 use Rattle.script_text.specs.declared.fault.ScriptFault.{ScriptFault}
-use Rattle.write_retry.specs.Outcomes.{is_ok}
-use Rattle.shell_top.specs.Report.{report}
-use Rattle.shell_top.specs.Requests.{AreShotsOf, requests}
-use Rattle.shell_top.specs.Wired.{AreSentOnce}
-use Rattle.shell_top.specs.declared.shot.Shot.{Shot}
+use Rattle.desk_trail.specs.declared.trail.Trail.{Trail}
+use Rattle.desk_trail.specs.Clients.{Client}
+use Rattle.desk_trail.specs.Facts.{Fact, facts_of}
+use Rattle.desk_trail.specs.Legal.{IsComplete, IsLegal, point_behind}
+use Rattle.desk_trail.specs.Written.{lists_of}
+use Rattle.desk_core.specs.Appends.{tell_fault}
+use Rattle.desk_core.specs.Ending.{ArePoolsShut}
+use Rattle.shell_top.specs.Going.{AreShown, IsShown}
+use Rattle.shell_top.specs.Report.{is_ok_tally, report}
+use Rattle.wired_trail.specs.Wired.{IsWired}
+use Rattle.write_effects.specs.Each.{EachTakesEffectOnce}
+use Rattle.trail_tally.specs.Tallies.{AreAnswered, tallies_of}
 use Rattle.shell_top.specs.declared.status.Status.{Status}
 use Rattle.shell_top.specs.declared.status.Status.TheVariants as status
 
@@ -27,7 +38,12 @@ IsIdle (status.Script fault) = Unit {0}
 IsIdle status.ReadFault = Unit {0}
 IsIdle _ = ⊥
 
--- Every command was shot.
+-- Words with that fault are refused for it. Where a connection string is at fault, memory may have been wanting before that was seen.
+abbrev pub RefusesWords : UseFault → Status → Type 0
+RefusesWords (use_fault.Uri first) s = (s ≡ status.Usage (use_fault.Uri first)) ⊎ (s ≡ status.Memory)
+RefusesWords fault s = s ≡ status.Usage fault
+
+-- Every command was run.
 abbrev pub IsDone : Status → Type 0
 IsDone status.AllOk = Unit {0}
 IsDone status.SomeFailed = Unit {0}
@@ -41,6 +57,8 @@ IsReached status.SomeFailed = Unit {0}
 IsReached status.WriteFault = Unit {0}
 IsReached status.Memory = Unit {0}
 IsReached _ = ⊥
+
+-- ---- The script
 
 -- Some text says that; where the source tells, it is the source's.
 pub record Tells (tells : Type 0) (source : List ℕ) (read : Result (List Command) ScriptFault) : Type 0 where
@@ -61,40 +79,56 @@ Refuses fault status.ReadFault = Unit {0}
 Refuses fault status.Memory = Unit {0}
 Refuses fault _ = ⊥
 
--- The script's commands; one shot each, in order.
-pub record ShootsAll (tells : Type 0) (source db : List ℕ) (shots : List Shot) : Type 0 where
-  pub commands : List Command
-  pub script : Tells tells source (Ok commands)
-  pub each : AreShotsOf db 1 commands shots
+-- What a run says of the script. The members are those of the source.
+-- A script that is at fault, and it alone, is refused, for its first fault (`refused`, `in_script`); a failure to read it is
+-- the source's (`cause`); where every command was run, the script was read to its end (`whole`).
+pub record ReadsScript {A : Type 0} (tells : Type 0) (left : A → List ℕ) (faults : A → ℕ) (old new : A) (s : Status) : Type 0 where
+  pub refused : IsScripts tells (left old) s
+  pub in_script : tells → (fault : ScriptFault) → script_reading (left old) ≡ Err fault → Refuses fault s
+  pub cause : HasCause (faults old) (faults new) (s ≡ status.ReadFault)
+  pub whole : tells → IsDone s → left new ≡ []
 
--- The same of as many commands at the front as there are shots.
-pub record ShootsSome (tells : Type 0) (source db : List ℕ) (shots : List Shot) : Type 0 where
-  pub commands : List Command
-  pub script : Tells tells source (Ok commands)
-  pub each : AreShotsOf db 1 (take (length shots) commands) shots
+-- ---- The client
 
--- Which commands were shot, by the status: all of them, but where memory ran out perhaps some at the front.
-abbrev pub Shoots : Type 0 → List ℕ → List ℕ → Status → List Shot → Type 0
-Shoots tells source db status.AllOk shots = ShootsAll tells source db shots
-Shoots tells source db status.SomeFailed shots = ShootsAll tells source db shots
-Shoots tells source db status.WriteFault shots = ShootsAll tells source db shots
-Shoots tells source db status.Memory shots = (shots ≡ []) ⊎ ShootsSome tells source db shots
-Shoots tells source db (status.Usage fault) shots = shots ≡ []
-Shoots tells source db (status.Script fault) shots = shots ≡ []
-Shoots tells source db status.ReadFault shots = shots ≡ []
+-- No entry, and nothing that one could name.
+abbrev pub no_trail : Trail
+no_trail = record { names = []; events = []; sessions = []; requests = []; steps = [] }
 
--- The shots' lines as the status tells them: all are ok, or one is not; there are none where nothing was dialled.
-abbrev pub all_ok : List Shot → Bool
-all_ok shots = list_all (λ s. is_ok s.outcome) shots
+-- What a net's history says of what a client did: each reply, failure and dial of the trail is the net's (`wired`); and where it is a
+-- history that honest members may have, each command took effect at most once, and a write that was answered ok exactly once (`once`).
+pub record IsOfNet (history : List NetEvent) (client : Client) (told : List (Timed Fact)) : Type 0 where
+  pub wired : IsWired client history told
+  pub once : EachTakesEffectOnce client told history
 
-abbrev pub Shows : Status → List Shot → Type 0
-Shows status.AllOk shots = all_ok shots ≡ true
-Shows status.SomeFailed shots = all_ok shots ≡ false
-Shows (status.Usage fault) shots = shots ≡ []
-Shows (status.Script fault) shots = shots ≡ []
-Shows status.ReadFault shots = shots ≡ []
-Shows status.WriteFault shots = Unit {0}
-Shows status.Memory shots = Unit {0}
+-- What a client did in a run. The members are those of the clock and the net.
+-- Its trail is legal (`legal`), so at each look for a server the topology is that of the events that were accepted, each connection
+-- that is checked out has one borrower and the pool's current generation, and each answer is the verdict on its command's attempts, by
+-- the laws of legal trails. Where every command was run it is complete (`complete`), each pool is closed (`shut`), and each command was
+-- answered (`answered`). It fits what the net told (`of_net`, by the test `fits`). Its moments
+-- are the clock's (`began`, `moments`). It tells a failed call of the net only where the net's count of faults rose (`told`), which never
+-- falls (`later`).
+pub record Did {A : Type 0} (shows : ℕ → Type 0) (faults : A → ℕ) (fits : Client → List (Timed Fact) → Type 0) (old new : A) (client : Client) (s : Status) (trail : Trail) : Type 0 where
+  pub began : IsShown shows client.began
+  pub legal : IsLegal client (lists_of trail) trail.steps
+  pub of_net : fits client (facts_of (lists_of trail) trail.steps)
+  pub complete : IsDone s → IsComplete client (lists_of trail) trail.steps
+  pub shut : IsDone s → ArePoolsShut (point_behind client (facts_of (lists_of trail) trail.steps)).state
+  pub answered : IsDone s → AreAnswered client.commands trail.steps
+  pub moments : AreShown shows trail.steps
+  pub later : faults old ≤ faults new
+  pub told : tell_fault trail.steps ≡ true → Rose (faults old) (faults new)
+
+-- ---- The report
+
+-- Each of the commands was carried out.
+abbrev pub all_ok : Client → Trail → Bool
+all_ok client trail = list_all is_ok_tally (tallies_of client.commands trail.steps)
+
+-- The status is the lines' verdict: all are ok, or one is not.
+abbrev pub Shows : Status → Bool → Type 0
+Shows status.AllOk ok = ok ≡ true
+Shows status.SomeFailed ok = ok ≡ false
+Shows _ ok = Unit {0}
 
 -- A front of the report was written, and not all of it.
 pub record WritesPart (whole old new : List ℕ) : Type 0 where
@@ -103,44 +137,47 @@ pub record WritesPart (whole old new : List ℕ) : Type 0 where
   pub front : IsPrefixOf written whole
   pub part : length written < length whole
 
--- What was written: the report of the shots, or a prefix of it where writing failed; nothing where there is no report.
-abbrev pub Writes : Status → List Shot → List ℕ → List ℕ → Type 0
-Writes status.AllOk shots old new = new ≡ old ++ report shots
-Writes status.SomeFailed shots old new = new ≡ old ++ report shots
-Writes status.WriteFault shots old new = WritesPart (report shots) old new
-Writes (status.Usage fault) shots old new = new ≡ old
-Writes (status.Script fault) shots old new = new ≡ old
-Writes status.ReadFault shots old new = new ≡ old
-Writes status.Memory shots old new = new ≡ old
+-- What was written: the report, or a prefix of it where writing failed; nothing where there is no report.
+abbrev pub Writes : Status → (whole old new : List ℕ) → Type 0
+Writes status.AllOk whole old new = new ≡ old ++ whole
+Writes status.SomeFailed whole old new = new ≡ old ++ whole
+Writes status.WriteFault whole old new = WritesPart whole old new
+Writes _ whole old new = new ≡ old
 
--- Each command's request was sent at most once, to the address, in order, and nothing else was asked of the net.
-pub record SendsEachOnce (tells : Type 0) (source db address : List ℕ) (old new : List NetEvent) : Type 0 where
-  pub commands : List Command
-  pub script : Tells tells source (Ok commands)
-  pub once : AreSentOnce address (requests db 1 commands) old new
+-- What a run says of its report. The members are those of the sink.
+-- The status is the lines' verdict (`verdict`), and what was written is the report of the trail (`written`).
+pub record Reports {A : Type 0} (tells : Type 0) (written_to : A → List ℕ) (old new : A) (client : Client) (s : Status) (trail : Trail) : Type 0 where
+  pub verdict : Shows s (all_ok client trail)
+  pub written : tells → Writes s (report client trail) (written_to old) (written_to new)
 
--- What a run says of the script. The members are those of the source.
--- A script that is at fault, and it alone, is refused, for its first fault (`refused`, `in_script`); a failure to read it is
--- the source's (`cause`); where every command was shot, the script was read to its end (`whole`).
-pub record ReadsScript {A : Type 0} (tells : Type 0) (left : A → List ℕ) (faults : A → ℕ) (old new : A) (s : Status) : Type 0 where
-  pub refused : IsScripts tells (left old) s
-  pub in_script : tells → (fault : ScriptFault) → script_reading (left old) ≡ Err fault → Refuses fault s
-  pub cause : HasCause (faults old) (faults new) (s ≡ status.ReadFault)
-  pub whole : tells → IsDone s → left new ≡ []
+-- ---- A whole run
 
--- What a run says of its lines and its output. The members are those of the sink.
--- The status is the lines' verdict (`verdict`), what was written is their report (`written`), and a failure to write it is
--- the sink's (`cause`).
-pub record Reports {A : Type 0} (tells : Type 0) (written_to : A → List ℕ) (faults : A → ℕ) (old new : A) (s : Status) (shots : List Shot) : Type 0 where
-  pub verdict : Shows s shots
-  pub written : tells → Writes s shots (written_to old) (written_to new)
-  pub cause : HasCause (faults old) (faults new) (s ≡ status.WriteFault)
+-- The client of a run: of the settings that the words give and the commands of the script.
+pub record IsClient (tells : Type 0) (source : List ℕ) (asked : Configuration) (client : Client) : Type 0 where
+  pub settings : client.settings ≡ asked
+  pub commands : Tells tells source (Ok client.commands)
 
--- What a run says of its requests to a host: each command of the script has one shot, in order, with the request that it
--- asks for (`each`), and was sent at most once, to the host, whatever the status (`once`).
-pub record SendsRequests (source_tells : Type 0) (source db address : List ℕ) (net_tells : Type 0) (old new : List NetEvent) (s : Status) (shots : List Shot) : Type 0 where
-  pub each : Shoots source_tells source db s shots
-  pub once : net_tells → (new ≡ old) ⊎ SendsEachOnce source_tells source db address old new
+-- Nothing was done: the net is as it was, the trail is empty, and nothing was written.
+pub record IsNothing {A B : Type 0} (net_old net_new : A) (left : Trail) (out_tells : Type 0) (written_to : B → List ℕ) (old new : B) : Type 0 where
+  pub net : net_new ≡ net_old
+  pub trail : left ≡ no_trail
+  pub written : out_tells → written_to new ≡ written_to old
+
+-- The script's commands were run by a client of what was asked for, which did that, and were reported so.
+pub record RunsAll {A B : Type 0} (source_tells : Type 0) (source : List ℕ) (asked : Configuration) (shows : ℕ → Type 0) (faults : A → ℕ)
+    (fits : Client → List (Timed Fact) → Type 0) (net net_now : A)
+    (out_tells : Type 0) (written_to : B → List ℕ) (old new : B) (s : Status) (trail : Trail) : Type 0 where
+  pub client : Client
+  pub of_words : IsClient source_tells source asked client
+  pub did : Did shows faults fits net net_now client s trail
+  pub reports : Reports out_tells written_to old new client s trail
+
+-- A run that read its words, and did not end before its first command: so it ran; or memory was wanting, and nothing was done.
+abbrev pub Runs : {A B : Type 0} → Type 0 → List ℕ → Configuration → (ℕ → Type 0) → (A → ℕ) → (Client → List (Timed Fact) → Type 0) → (net net_now : A) → Type 0 → (B → List ℕ) → (old new : B) →
+    Status → Trail → Type 0
+Runs source_tells source asked shows faults fits net net_now out_tells written_to old new s trail =
+    RunsAll source_tells source asked shows faults fits net net_now out_tells written_to old new s trail
+    ⊎ ((s ≡ status.Memory) × IsNothing net net_now trail out_tells written_to old new)
 
 -- The number that the program ends with.
 -- own: as the statuses of the command line are told.
@@ -152,3 +189,22 @@ exit_code (status.Script fault) = 3
 exit_code status.ReadFault = 4
 exit_code status.WriteFault = 5
 exit_code status.Memory = 6
+
+-- ---- What only private functions cite
+
+-- Commands were run by a client with those settings, which did that, and were reported so.
+pub record RunsClient {A B : Type 0} (settings : Configuration) (commands : List Command) (shows : ℕ → Type 0) (faults : A → ℕ)
+    (fits : Client → List (Timed Fact) → Type 0) (net net_now : A)
+    (out_tells : Type 0) (written_to : B → List ℕ) (old new : B) (s : Status) (trail : Trail) : Type 0 where
+  pub client : Client
+  pub given_settings : client.settings ≡ settings
+  pub given_commands : client.commands ≡ commands
+  pub did : Did shows faults fits net net_now client s trail
+  pub reports : Reports out_tells written_to old new client s trail
+
+-- So it was, or memory was wanting, and nothing was done.
+abbrev pub RunsGiven : {A B : Type 0} → Configuration → List Command → (ℕ → Type 0) → (A → ℕ) → (Client → List (Timed Fact) → Type 0) → (net net_now : A) → Type 0 → (B → List ℕ) → (old new : B) →
+    Status → Trail → Type 0
+RunsGiven settings commands shows faults fits net net_now out_tells written_to old new s trail =
+    RunsClient settings commands shows faults fits net net_now out_tells written_to old new s trail
+    ⊎ ((s ≡ status.Memory) × IsNothing net net_now trail out_tells written_to old new)

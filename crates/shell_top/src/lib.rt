@@ -1,28 +1,30 @@
-//! The top call of the program: a script of commands is sent to a server, and a report says what came of each (own).
+//! The top call of the program: what the command line asks for is done, and a report says what came of it (own).
 //!
-//! [`run`] reads the words `run HOSTS SET DB`, then the whole script, and makes one [`Shot`] of each command: one message
-//! (MongoDB wire protocol, OP_MSG) on a stream of its own, dialled to the host, with request ids that count from 1. It
-//! writes one line for each shot and a last one that counts them, and hands back what it leaves as [`Ended`]. It works
-//! over any source, sink, net and clock; its contract says what each [`Status`] means, and what a net that tells its
-//! history told of every shot.
+//! [`run`] reads the words. Those of a run give a connection string: [`run`] reads the whole script, and runs its commands over a
+//! client's core, a `desk_core` desk, that finds the servers, checks them, keeps connections and sends a lost write again. One
+//! thread steps the first command that is not answered; while that waits it drives the checks of the servers and rests. Behind the
+//! last command the desk is ended, and the report is made of its trail: one line a command, and a last one that counts them. Those
+//! of a soak give a seed: the commands are the seed's, over members of a replica set that are played in memory (`member_hall`), and
+//! seven lines sum up. What either leaves is [`Ended`]. It works over any source, sink, net, clock and dice; its contract says what
+//! each [`Status`] means.
 //!
-//! One command's way: `words` and `script_text` read what is asked for, `requests` builds the message, `attempt` makes
-//! the shot of it, `shoot` dials and closes the stream, `conversation` sends the request over a `desk_wire` and judges
-//! the reply, which `cmd_outcome` reads, `sending` goes through the commands, `report` tells their lines.
+//! One run's way: `run_words` reads what is asked for, `script_text` the script; `running` makes the desk; `playing` has `driving`
+//! run its commands and ends it; `waiting` drives checks and rests; `trail_tally` counts, of what was appended to the trail, each
+//! command's attempts, and keeps its answer; `report` tells the lines. A soak's way: `soak_plan` gives its commands and what happens
+//! to the members, `soaking` makes these and the desk, which `playing` runs; `summing` counts, `summary` tells the lines.
 #![tactic(auto)]
 
-mod attempt;
 mod context;
-mod conversation;
+mod driving;
+mod playing;
 mod report;
-mod requests;
 mod running;
-mod sending;
-mod shoot;
-mod shot;
+mod soaking;
 mod status;
-mod words;
+mod summary;
+mod summing;
+mod waiting;
 
+pub use run_words::UseFault;
 pub use running::run;
-pub use shot::{Shot, ShotEnd};
-pub use status::{Ended, Status, UseFault};
+pub use status::{Ended, Status};

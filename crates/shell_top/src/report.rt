@@ -1,40 +1,82 @@
-ghost use Rattle.std.specs.Prelude.{◌≡◌, ◌≤◌, [], All, length, IfOk, string_bytes};
-ghost use Rattle.report_text.specs.Lines.{line};
-ghost use Rattle.shell_top.specs.Report.{IsUnnamed, ok_count, report};
+ghost use Rattle.std.specs.Prelude.{◌≡◌, ◌≤◌, ◌++◌, IfOk, OnOk, length, string_bytes};
+ghost use Rattle.shell_top.specs.Report.{ignored_lines, is_ok_tally, line_of, lines, ok_count, report_by};
 
-use crate::shot::Shot;
 use bson_doc::{Memory, Rows, Text};
-use report_text::{last_line, line};
+use host_name::Host;
+use report_text::{ignored_line, last_line, line};
 use std::alloc::Global;
+use trail_tally::Tally;
 
-/// The report of shots, one line each, and a last line that counts them.
-pub fn report_of(alloc: Global, shots: &[Shot]) -> Result<String, Memory>
-    requires bounded { length shots.now ≤ 100000 }
-    requires unnamed { All IsUnnamed shots.now }
-    ensures { IfOk result (λ text. string_bytes text ≡ report shots.now) }
+/// The report of a run: a line for each option that was ignored, one for each command, and a last line that counts them.
+pub fn report_of(
+    alloc: Global,
+    ignored: &[Text],
+    names: &Rows<Host>,
+    tallies: &[Tally],
+) -> Result<String, Memory>
+    requires bounded { length tallies.now ≤ 100000 }
+    ensures { IfOk result (λ text. string_bytes text ≡ report_by ignored.now names.now tallies.now) }
 {
     let mut text = String::new(alloc);
-    for (place, shot) in shots.iter().enumerate() {
-        let line = line_of(alloc, place as u32 + 1, shot)?;
-        text.push_str(line.as_str())?;
-    }
-    let last = last_line(alloc, shots.len() as u32, count_ok(shots))?;
+    push_ignored(alloc, &mut text, ignored)?;
+    push_lines(alloc, &mut text, names, tallies)?;
+    let last = last_line(alloc, tallies.len() as u32, count_ok(tallies))?;
     text.push_str(last.as_str())?;
     Ok(text)
 }
 
-/// The line of a shot, which took one attempt and names no host.
-fn line_of(alloc: Global, number: u32, shot: &Shot) -> Result<Text, Memory>
-    requires { IsUnnamed shot.now }
-    ensures { IfOk result (λ text. text ≡ line [] number shot.now.outcome 1) }
+/// The options that were ignored.
+fn push_ignored(alloc: Global, text: &mut String, ignored: &[Text]) -> Result<(), Memory>
+    ensures { OnOk result (string_bytes text.new ≡ string_bytes text.old ++ ignored_lines ignored.now) }
 {
-    line(alloc, number, &shot.outcome, 1, &Rows::new(alloc))
+    'ignored: for name in ignored {
+        let line = ignored_line(alloc, name.as_str())?;
+        text.push_str(line.as_str())?;
+    }
+    Ok(())
 }
 
-/// How many of the shots' lines are ok.
-fn count_ok(shots: &[Shot]) -> u32
-    requires { length shots.now ≤ 100000 }
-    ensures { result ≡ ok_count shots.now }
+/// The commands' lines.
+fn push_lines(
+    alloc: Global,
+    text: &mut String,
+    names: &Rows<Host>,
+    tallies: &[Tally],
+) -> Result<(), Memory>
+    requires bounded { length tallies.now ≤ 100000 }
+    ensures { OnOk result (string_bytes text.new ≡ string_bytes text.old ++ lines names.now 1 tallies.now) }
 {
-    shots.iter().filter(|shot| shot.outcome.is_ok()).count() as u32
+    'lines: for (place, tally) in tallies.iter().enumerate() {
+        let line = line_of(alloc, place as u32 + 1, tally, names)?;
+        text.push_str(line.as_str())?;
+    }
+    Ok(())
+}
+
+/// The line of a command; none where it was not answered.
+fn line_of(alloc: Global, number: u32, tally: &Tally, names: &Rows<Host>) -> Result<Text, Memory>
+    ensures { IfOk result (λ text. text ≡ line_of names.now number tally.now) }
+{
+    match &tally.answer {
+        Some(outcome) => line(alloc, number, outcome, tally.attempts, names),
+        None => Ok(Text::new(alloc)),
+    }
+}
+
+/// How many of the lines are ok.
+pub fn count_ok(tallies: &[Tally]) -> u32
+    requires { length tallies.now ≤ 100000 }
+    ensures { result ≡ ok_count tallies.now }
+{
+    tallies.iter().filter(|tally| is_ok(tally)).count() as u32
+}
+
+/// Whether the command was answered as carried out.
+pub fn is_ok(tally: &Tally) -> bool
+    ensures { result ≡ is_ok_tally tally.now }
+{
+    match &tally.answer {
+        Some(outcome) => outcome.is_ok(),
+        None => false,
+    }
 }

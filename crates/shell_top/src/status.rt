@@ -1,9 +1,9 @@
 ghost use Rattle.std.specs.Prelude.{◌≡◌};
 ghost use Rattle.shell_top.specs.Run.{exit_code};
 
-use crate::shot::Shot;
-use bson_doc::Rows;
-use host_name::HostFault;
+use desk_trail::Trail;
+use member_hall::Hall;
+use run_words::UseFault;
 use script_text::ScriptFault;
 
 /// How a run ended. The program ends with the status' number.
@@ -25,17 +25,6 @@ pub enum Status {
     Memory,
 }
 
-/// Why words are refused. The first that applies is told, in this order.
-#[derive(Clone, Copy, Debug, PartialEq, Eq)]
-pub enum UseFault {
-    /// They are not `run HOSTS SET DB`.
-    Words,
-    /// They name several hosts, or a set.
-    Later,
-    /// The host's text is at fault; this is never `HostFault::Memory`.
-    Host(HostFault),
-}
-
 impl Status {
     /// The number that the program ends with.
     pub fn code(&self) -> u8
@@ -53,13 +42,15 @@ impl Status {
     }
 }
 
-/// What a run leaves: how it ended, the net, and the shots that it made.
-#[derive(Debug, Drop)]
+/// What a run leaves: how it ended, the net, and the trail of all that its client did.
+#[derive(Drop)]
 pub struct Ended<N> {
     /// How it ended.
     pub status: Status,
     /// The net that was handed in.
     pub net: N,
-    /// One shot a command, in order.
-    pub shots: Rows<Shot>,
+    /// What the client did; nothing where the run ended before its first command.
+    pub trail: Trail,
+    /// The members that a soak played in memory, as it left them; there are some exactly behind a soak that made them.
+    pub soaked: Option<Hall>,
 }

@@ -4,7 +4,8 @@
 mod waiting;
 
 use bson_doc::{Bytes, Rows, Text};
-use net_link::{NetEvent, ScriptNet, SliceSource, StreamPlan, TickClock, VecSink};
+use desk_trail::Purpose;
+use net_link::{ListDice, NetEvent, ScriptNet, SliceSource, StreamPlan, TickClock, VecSink};
 use shell_top::{Ended, run};
 use std::alloc::Global;
 use std::sync::Wait;
@@ -13,18 +14,22 @@ use std::test::Fail;
 /// The script of one insert.
 const SCRIPT: &str = r#"{"lane":1,"op":"insert","coll":"a","doc":{"_id":7}}"#;
 
-/// Its request: the insert of `{_id: 7}` into collection `a` of database `test`, with id 1.
+/// Its request: the insert of `{_id: 7}` into collection `a` of database `test`, with id 3.
 const REQUEST: &[u8] =
-    b"\x96\0\0\0\x01\0\0\0\0\0\0\0\xdd\x07\0\0\0\0\0\0\0\x81\0\0\0\x02insert\0\x02\0\0\0a\0\x04documents\0\x16\0\0\0\x030\0\x0e\0\0\0\x10_id\0\x07\0\0\0\0\0\x08ordered\0\x01\x03writeConcern\0\x15\0\0\0\x02w\0\x09\0\0\0majority\0\0\x02apiVersion\0\x02\0\0\x001\0\x02$db\0\x05\0\0\0test\0\0";
+    b"\x96\0\0\0\x03\0\0\0\0\0\0\0\xdd\x07\0\0\0\0\0\0\0\x81\0\0\0\x02insert\0\x02\0\0\0a\0\x04documents\0\x16\0\0\0\x030\0\x0e\0\0\0\x10_id\0\x07\0\0\0\0\0\x08ordered\0\x01\x03writeConcern\0\x15\0\0\0\x02w\0\x09\0\0\0majority\0\0\x02apiVersion\0\x02\0\0\x001\0\x02$db\0\x05\0\0\0test\0\0";
 
-/// `{n: 1, ok: 1.0}` in answer to it.
-const REPLY: &[u8] =
-    b"\x2d\0\0\0\x07\0\0\0\x01\0\0\0\xdd\x07\0\0\0\0\0\0\0\x18\0\0\0\x10n\0\x01\0\0\0\x01ok\0\0\0\0\0\0\0\xf0\x3f\0";
+/// `{ok: 1.0, minWireVersion: 0, maxWireVersion: 21}` in answer to the hello of the check, with id 1.
+const CHECK: &[u8] =
+    b"\x4e\0\0\0\x07\0\0\0\x01\0\0\0\xdd\x07\0\0\0\0\0\0\0\x39\0\0\0\x01ok\0\0\0\0\0\0\0\xf0\x3f\x10minWireVersion\0\0\0\0\0\x10maxWireVersion\0\x15\0\0\0\0";
+
+/// The same in answer to the hello of the connection, with id 2, and `{n: 1, ok: 1.0}` in answer to the request.
+const CONNECTION: &[u8] =
+    b"\x4e\0\0\0\x07\0\0\0\x02\0\0\0\xdd\x07\0\0\0\0\0\0\0\x39\0\0\0\x01ok\0\0\0\0\0\0\0\xf0\x3f\x10minWireVersion\0\0\0\0\0\x10maxWireVersion\0\x15\0\0\0\0\x2d\0\0\0\x07\0\0\0\x03\0\0\0\xdd\x07\0\0\0\0\0\0\0\x18\0\0\0\x10n\0\x01\0\0\0\x01ok\0\0\0\0\0\0\0\xf0\x3f\0";
 
 /// The words of a run against one host.
 fn one_host(alloc: Global) -> Result<Rows<Text>, Fail> {
     let mut words = Rows::new(alloc);
-    for word in ["run", "127.0.0.1:27017", "-", "test"] {
+    for word in ["run", "mongodb://127.0.0.1:27017"] {
         words.push(Text::take(alloc, word)?)?;
     }
     Ok(words)
@@ -35,26 +40,34 @@ fn source(alloc: Global) -> Result<SliceSource, Fail> {
     Ok(SliceSource::new(Bytes::take(alloc, SCRIPT.as_bytes())?, Rows::new(alloc)))
 }
 
-/// Runs the script over a net with one stream, which gives the reply.
+/// A stream that gives these bytes.
+fn plan(alloc: Global, bytes: &[u8]) -> Result<StreamPlan, Fail> {
+    Ok(StreamPlan {
+        bytes: Bytes::take(alloc, bytes)?,
+        most: 4096,
+        ends: false,
+    })
+}
+
+/// Runs the script over a net with two streams, of the check and of the connection.
 fn over_script<R: Wait>(
     rt: &R,
     alloc: Global,
     out: &mut VecSink,
 ) -> Result<Ended<ScriptNet>, Fail> {
     let mut plans = Rows::new(alloc);
-    plans.push(StreamPlan {
-        bytes: Bytes::take(alloc, REPLY)?,
-        most: 4096,
-        ends: false,
-    })?;
+    plans.push(plan(alloc, CHECK)?)?;
+    plans.push(plan(alloc, CONNECTION)?)?;
     let net = ScriptNet::new(alloc, plans, Rows::new(alloc));
-    let clock = TickClock::new(0, 1_000_000);
+    let clock = TickClock::new(0, 1_000);
     let words = one_host(alloc)?;
-    Ok(run(rt, alloc, &words, &mut source(alloc)?, out, net, &clock))
+    let mut script = source(alloc)?;
+    let dice = ListDice::new(Rows::take(alloc, &[1])?);
+    Ok(run(rt, alloc, &words, &mut script, out, net, &clock, dice))
 }
 
 #[test]
-fn the_request_goes_out_whole_and_the_stream_is_closed(rt: HostRuntime) -> Result<(), Fail> {
+fn the_request_goes_out_whole_and_each_stream_is_closed(rt: HostRuntime) -> Result<(), Fail> {
     let alloc = rt.alloc();
     let mut out = VecSink::new(alloc, 4096, Rows::new(alloc))?;
     let ended = over_script(&rt, alloc, &mut out)?;
@@ -67,14 +80,17 @@ fn the_request_goes_out_whole_and_the_stream_is_closed(rt: HostRuntime) -> Resul
     let mut closed = 0u32;
     for event in ended.net.events() {
         match event {
-            NetEvent::Out { bytes, .. } => {
-                assert_eq!(rt; bytes.as_slice(), REQUEST);
-                sent = sent.saturating_add(1);
-            }
+            NetEvent::Out { bytes, .. } if bytes.as_slice() == REQUEST => sent =
+                sent.saturating_add(1),
             NetEvent::Closed { .. } => closed = closed.saturating_add(1),
             _ => {}
         }
     }
-    assert_eq!(rt; (sent, closed), (1, 1));
+    assert_eq!(rt; (sent, closed), (1, 2));
+    for request in ended.trail.requests.as_slice() {
+        if let Purpose::Command { .. } = request.purpose {
+            assert_eq!(rt; request.bytes.as_slice(), REQUEST);
+        }
+    }
     Ok(())
 }

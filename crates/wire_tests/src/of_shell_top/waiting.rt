@@ -3,10 +3,10 @@
 ghost use Rattle.std.specs.Prelude.{◌≡◌, ◌<◌, []};
 ghost use Rattle.net_link.specs.Causes.{count_of-below};
 
-use super::{REPLY, REQUEST, one_host, source};
-use bson_doc::{Bytes, Rows};
-use net_link::{Came, Clock, Dialed, Net, TickClock, VecSink, Wrote};
-use shell_top::{ShotEnd, run};
+use super::{CHECK, CONNECTION, one_host, source};
+use bson_doc::Rows;
+use net_link::{Came, Clock, Dialed, ListDice, Net, TickClock, VecSink, Wrote};
+use shell_top::run;
 use std::alloc::Global;
 use std::sync::Wait;
 use std::test::Fail;
@@ -20,12 +20,12 @@ struct SlowNet {
     full: u32,
     /// How many writes in a row took nothing.
     waited: u32,
-    /// How many reads have nothing before the reply is there.
+    /// How many reads have nothing before the first reply is there.
     dry: u32,
-    /// What was taken.
-    out: Bytes,
-    /// How much of the reply was given.
-    given: usize,
+    /// How many bytes were taken.
+    taken: u64,
+    /// How many bytes of the first stream's replies were given, and of the others'.
+    given: [usize; 2],
 }
 
 impl Net for SlowNet {
@@ -58,28 +58,31 @@ impl Net for SlowNet {
         Dialed::Stream(stream)
     }
 
-    fn write(&mut self, _stream: u64, bytes: &[u8]) -> Wrote {
+    fn write(&mut self, _stream: u64, _bytes: &[u8]) -> Wrote {
         if self.waited < self.full {
             self.waited += 1;
             return Wrote::NotYet;
         }
         self.waited = 0;
-        match self.out.push(bytes[0]) {
-            Ok(()) => Wrote::Took(1),
-            Err(_) => Wrote::Memory,
-        }
+        self.taken = self.taken.saturating_add(1);
+        Wrote::Took(1)
     }
 
-    fn read(&mut self, _stream: u64, into: &mut [u8]) -> Came {
+    fn read(&mut self, stream: u64, into: &mut [u8]) -> Came {
         if self.dry > 0 {
             self.dry -= 1;
             return Came::NotYet;
         }
-        let Some(byte) = REPLY.get(self.given) else {
+        let (place, replies) = if stream == 0 {
+            (0, CHECK)
+        } else {
+            (1, CONNECTION)
+        };
+        let Some(byte) = replies.get(self.given[place]) else {
             return Came::NotYet;
         };
         into[0] = *byte;
-        self.given += 1;
+        self.given[place] += 1;
         Came::Got(1)
     }
 
@@ -107,10 +110,8 @@ struct Left {
     code: u8,
     /// What was written.
     out: VecSink,
-    /// What went out.
-    sent: Bytes,
-    /// How the shot ended.
-    end: Option<ShotEnd>,
+    /// How many bytes went out.
+    taken: u64,
 }
 
 /// Runs the script of one insert over a slow net.
@@ -127,36 +128,35 @@ fn over_slow<R: Wait, C: Clock>(
         full,
         waited: 0,
         dry,
-        out: Rows::new(alloc),
-        given: 0,
+        taken: 0,
+        given: [0, 0],
     };
     let words = one_host(alloc)?;
-    let ended = run(rt, alloc, &words, &mut source(alloc)?, &mut out, net, clock);
-    let end = ended.shots.as_slice().first().map(|shot| shot.end);
+    let mut script = source(alloc)?;
+    let dice = ListDice::new(Rows::take(alloc, &[1])?);
+    let ended = run(rt, alloc, &words, &mut script, &mut out, net, clock, dice);
     Ok(Left {
         code: ended.status.code(),
         out,
-        sent: ended.net.out,
-        end,
+        taken: ended.net.taken,
     })
 }
 
-/// Nothing is taken, and the clock goes on.
+/// Nothing is taken, and the clock goes on: no server is known in time.
 #[test]
-fn a_net_that_takes_nothing_is_late(rt: HostRuntime) -> Result<(), Fail> {
+fn a_net_that_takes_nothing_has_no_server(rt: HostRuntime) -> Result<(), Fail> {
     let ticks = TickClock::new(0, 1_000_000);
     let left = over_slow(&rt, rt.alloc(), &ticks, u32::MAX, 0)?;
     assert_eq!(rt; left.code, 1);
     assert_eq!(rt;
         left.out.written(),
-        b"1: late attempts=1\ndone 1 ok 0\n".as_slice()
+        b"1: no-server attempts=0\ndone 1 ok 0\n".as_slice()
     );
-    assert_eq!(rt; left.sent.len(), 0);
-    assert_eq!(rt; left.end, Some(ShotEnd::TimedOut));
+    assert_eq!(rt; left.taken, 0);
     Ok(())
 }
 
-/// The clock stands still: each second write takes a byte, and the thousandth read has the reply's first.
+/// The clock stands still: each second write takes a byte, and the thousandth read has the first reply's first.
 #[test]
 fn no_net_is_late_where_the_clock_stands(rt: HostRuntime) -> Result<(), Fail> {
     let left = over_slow(&rt, rt.alloc(), &StillClock, 1, 999)?;
@@ -165,7 +165,5 @@ fn no_net_is_late_where_the_clock_stands(rt: HostRuntime) -> Result<(), Fail> {
         left.out.written(),
         b"1: ok n=1 modified=0 attempts=1\ndone 1 ok 1\n".as_slice()
     );
-    assert_eq!(rt; left.sent.as_slice(), REQUEST);
-    assert_eq!(rt; left.end, Some(ShotEnd::Replied));
     Ok(())
 }

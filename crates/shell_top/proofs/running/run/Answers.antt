@@ -1,5 +1,7 @@
-use Rattle.shell_top.proofs.RunLemmas.{made-before}
+use Rattle.std.proofs.Common.{ap, sym, ◌∙◌}
+use Rattle.run_words.specs.Words.{asks}
 use Rattle.shell_top.proofs.running.run.Goals as goal
 
-pub returns-in-Err-Memory-clause-shots : goal.returns-in-Err-Memory-clause-shots
-returns-in-Err-Memory-clause-shots g c = λ asked is. made-before g.C.Clock.shows _ g.N.Net.history g.N.Net.faults _ _ _ _ c.before_all-in-Err-Memory.ensures.net c.before_all-in-Err-Memory.ensures.shots
+pub returns-in-Ok-Soak-clause-soaked : goal.returns-in-Ok-Soak-clause-soaked
+returns-in-Ok-Soak-clause-soaked g c = λ some.
+    (c.in-Ok-Soak.seed, c.in-Ok-Soak.count, ap asks (sym c.as_slice.ensures.value) ∙ (rw c.in-Ok-Soak.field-0-is at c.in-Ok-Soak.ensures.ok))

@@ -1,81 +1,138 @@
-//! The program `example_script`: a script of two inserts is run over a net in memory.
+//! The program `example_script`: a script of four commands is run over a replica set in memory, of which another member is elected
+//! in the middle.
 //!
-//! `run` is generic over its source, sink, net and clock. The program `mdc` hands it sockets and the standard input; here it gets
-//! stand-ins of `net_link`, which do what they were told to, so that no server is needed to try it.
+//! `run` is generic over its source, sink, net, clock and dice. The program `mdc` hands it sockets and the standard input; here it
+//! gets stand-ins. A `Hall` is a net that plays the members of a set, with a plan of what happens to them.
 #![tactic(auto)]
 
-ghost use Rattle.std.specs.Prelude.{◌≡◌, IfOk};
-ghost use Rattle.msg_wire.specs.Framing.{Framed};
-ghost use Rattle.msg_wire.specs.declared.message.Message.{Message};
+ghost use Rattle.std.specs.Prelude.{◌≡◌, [], IfOk};
 
-use bson_doc::{Bytes, Document, Rows, Text, Value};
-use msg_wire::write;
-use net_link::{ScriptNet, SliceSource, StreamPlan, TickClock, VecSink};
-use shell_top::run;
-use std::alloc::Global;
+use bson_doc::{Bytes, Memory, Rows, Text};
+use host_name::Host;
+use member_core::is_within;
+use member_hall::{Act, Hall, Planned};
+use net_link::{SliceSource, TickClock, VecSink};
+use shell_top::{Ended, run};
+use soak_plan::SeedDice;
+use std::alloc::{AllocError, Global};
+use std::sync::Wait;
+
+/// The name of the set, and how it is reached.
+const SET: &str = "rs0";
+
+const URI: &str = "mongodb://a,b,c/?replicaSet=rs0";
 
 /// One command a line.
 const SCRIPT: &str =
     "{\"lane\":1,\"op\":\"insert\",\"coll\":\"people\",\"doc\":{\"_id\":7,\"name\":\"Ada\"}}
-{\"lane\":1,\"op\":\"insert\",\"coll\":\"people\",\"doc\":{\"_id\":8}}
+{\"lane\":1,\"op\":\"update\",\"coll\":\"people\",\"filter\":{\"_id\":7},\"change\":{\"$set\":{\"name\":\"Eve\"}}}
+{\"lane\":1,\"op\":\"delete\",\"coll\":\"people\",\"filter\":{\"name\":\"Eve\"},\"limit\":0}
+{\"lane\":1,\"op\":\"find\",\"coll\":\"people\",\"filter\":{\"_id\":7}}
 ";
 
-/// By how many microseconds the clock goes on at each look.
-const STEP: u64 = 1_000;
+/// At which dial, write or read another member is elected.
+const TURN: u64 = 20;
+
+/// The second member is elected then, and the first one follows it.
+const PLAN: [Planned; 2] = [
+    Planned {
+        turn: TURN,
+        act: Act::Elect { host: 1 },
+    },
+    Planned {
+        turn: TURN,
+        act: Act::Follow { host: 0 },
+    },
+];
 
 /// How many bytes the report has at most.
 const ROOM: usize = 1_000;
 
+/// What is run, and over which members.
+#[derive(Drop)]
+struct Setting {
+    words: Rows<Text>,
+    script: SliceSource,
+    out: VecSink,
+    hall: Hall,
+}
+
+/// What a run left: its status, members and trail, and what was written.
+#[derive(Drop)]
+struct Ran {
+    ended: Ended<Hall>,
+    out: VecSink,
+}
+
 fn main(rt: HostRuntime) -> anyhow::Result<()> {
-    let alloc = rt.alloc();
-    let words = words(alloc, &["run", "one.example", "-", "test"])?;
-    let mut script = SliceSource::new(Bytes::take(alloc, SCRIPT.as_bytes())?, Rows::new(alloc));
-    let mut report = VecSink::new(alloc, ROOM, Rows::new(alloc))?;
-    let net = net(alloc)?;
-    let clock = TickClock::new(0, STEP);
-
-    let ended = run(&rt, alloc, &words, &mut script, &mut report, net, &clock);
-
-    print!(rt; "{}", std::str::from_utf8(report.written())?)?;
-    println!(rt; "status {}", ended.status.code())?;
+    let setting = setting_of(rt.alloc())?;
+    let ran = run_over(&rt, rt.alloc(), setting);
+    print!(rt; "{}", std::str::from_utf8(ran.out.written())?)?;
+    println!(rt; "elections {}", ran.ended.net.elections())?;
     Ok(())
 }
 
-/// The words of a command line.
-fn words(alloc: Global, all: &[&str]) -> anyhow::Result<Rows<Text>> {
+/// Runs the script over members to which nothing happened yet. The clock goes on by a microsecond at each look.
+fn run_over<R: Wait>(rt: &R, alloc: Global, setting: Setting) -> Ran
+    requires { setting.hall.events ≡ [] }
+{
+    let words = setting.words;
+    let hall = setting.hall;
+    let mut script = setting.script;
+    let mut out = setting.out;
+    let clock = TickClock::new(0, 1);
+    let dice = SeedDice::new(1);
+    let ended = run(rt, alloc, &words, &mut script, &mut out, hall, &clock, dice);
+    Ran { ended, out }
+}
+
+fn setting_of(alloc: Global) -> Result<Setting, Memory>
+    ensures fresh { IfOk result (λ setting. setting.hall.events ≡ []) }
+{
+    Ok(Setting {
+        words: words(alloc)?,
+        script: SliceSource::new(Bytes::take(alloc, SCRIPT.as_bytes())?, Rows::new(alloc)),
+        out: VecSink::new(alloc, ROOM, Rows::new(alloc))?,
+        hall: hall(alloc)?,
+    })
+}
+
+/// The words of the command line.
+fn words(alloc: Global) -> Result<Rows<Text>, Memory> {
     let mut words = Rows::new(alloc);
-    for word in all {
-        words.push(Text::take(alloc, word)?)?;
-    }
+    words.push(Text::take(alloc, "run")?)?;
+    words.push(Text::take(alloc, URI)?)?;
     Ok(words)
 }
 
-/// A net whose first stream answers the request with id 1, and whose second ends in the middle of its answer.
-fn net(alloc: Global) -> anyhow::Result<ScriptNet> {
-    let whole = answer_to(alloc, 1)?;
-    let cut = Bytes::take(alloc, whole.as_slice().get(..20).unwrap_or(&[]))?;
-    let mut plans = Rows::new(alloc);
-    plans.push(plan(whole, false))?;
-    plans.push(plan(cut, true))?;
-    Ok(ScriptNet::new(alloc, plans, Rows::new(alloc)))
-}
-
-/// A stream that gives these bytes, a few at a time, and whether its peer ends it behind them.
-fn plan(bytes: Bytes, ends: bool) -> StreamPlan {
-    StreamPlan {
-        bytes,
-        most: 16,
-        ends,
+/// Three members, to which happens what is planned.
+fn hall(alloc: Global) -> Result<Hall, Memory>
+    ensures fresh { IfOk result (λ hall. hall.events ≡ []) }
+{
+    let hosts = hosts(alloc)?;
+    let plan = Rows::take(alloc, &PLAN)?;
+    if !is_within(alloc, SET, hosts.as_slice())? {
+        return Err(AllocError);
+    }
+    match Hall::new(alloc, SET, hosts.as_slice(), plan) {
+        Ok(hall) => Ok(hall),
+        Err(_) => Err(AllocError),
     }
 }
 
-/// The message by which a server says ok to the request of that id, with one document inserted.
-#[tactic(auto, unfolding(msg_wire::specs::Flags::refused_bit))]
-fn answer_to(alloc: Global, request: i32) -> anyhow::Result<Bytes>
-    ensures answers { IfOk result (λ bytes. (message : Message) × (message.to ≡ request) × Framed bytes message) }
-{
-    let mut reply = Document::new(alloc);
-    reply.put(alloc, "n", Value::Int32(1))?;
-    reply.put(alloc, "ok", Value::Int32(1))?;
-    Ok(write(alloc, 1, request, 0, &reply)?)
+/// Their hosts.
+fn hosts(alloc: Global) -> Result<Rows<Host>, Memory> {
+    let mut hosts = Rows::new(alloc);
+    for name in ["a", "b", "c"] {
+        hosts.push(host(alloc, name)?)?;
+    }
+    Ok(hosts)
+}
+
+/// The host of that name.
+fn host(alloc: Global, name: &str) -> Result<Host, Memory> {
+    match Host::parse(alloc, name) {
+        Ok(host) => Ok(host),
+        Err(_) => Err(AllocError),
+    }
 }

@@ -1,77 +1,88 @@
-#!/usr/bin/env python3
-"""A loopback peer for mdc: takes connections one after another, and answers each with bytes that were written by hand.
+"""A loopback peer for mdc: answers each request with bytes that were written by hand.
 
-usage: responder.py [--limit SECONDS] PORT_FILE RECEIVED_FILE REPLY...
-
-REPLY is one connection's answer: MODE:HEX with MODE one of
+`Peer(plans)` takes connections; the k-th one has the k-th plan, a list of answers `(how, digits)` with one a request, in order,
+or a function that gives the answer to a request in hexadecimal. How it answers:
   whole    the bytes at once
   bytes    one byte at a time
+  late N   the bytes at once, behind N milliseconds
   cut      the bytes, then the end of the stream
-  early    the end of the stream as soon as the request is there
-  silent   no answer; the stream stays until the peer ends it
-It writes its port to PORT_FILE, and each connection's request in hexadecimal as a line of RECEIVED_FILE. It ends behind
-its last answer, or where it has waited for that many seconds (60) for a connection or for bytes.
+A request behind the plan's last answer is noted and not answered. A connection for which there is no plan is ended at once.
 """
 
-import argparse
 import socket
+import threading
 import time
+
+WAIT_SECONDS = 60
 
 
 def take_request(connection):
-    """One message, by its messageLength."""
+    """One message, by its messageLength; what there is of it where the stream ends."""
     held = b""
     while len(held) < 4 or len(held) < int.from_bytes(held[:4], "little"):
-        piece = connection.recv(65536)
+        wanted = 4 if len(held) < 4 else int.from_bytes(held[:4], "little")
+        piece = connection.recv(wanted - len(held))
         if not piece:
             break
         held += piece
     return held
 
 
-def answer(connection, mode, reply):
-    if mode == "bytes":
+def answer(connection, how, digits):
+    reply = bytes.fromhex(digits)
+    if how == "bytes":
         for byte in reply:
             connection.sendall(bytes([byte]))
             time.sleep(0.002)
-    elif mode in ("whole", "cut"):
+    else:
+        if how.startswith("late "):
+            time.sleep(int(how[5:]) / 1000)
         connection.sendall(reply)
-    if mode in ("cut", "early"):
+    if how == "cut":
         connection.shutdown(socket.SHUT_WR)
 
 
-def rest_of(connection):
-    """What the peer still sends before it closes; one that closes with bytes unread resets the connection."""
-    try:
-        return connection.recv(65536)
-    except ConnectionError:
-        return b""
+class Peer:
+    def __init__(self, plans):
+        self.plans, self.received, self.threads = list(plans), [], []
+        self.listener = socket.create_server(("127.0.0.1", 0))
+        self.host = f"127.0.0.1:{self.listener.getsockname()[1]}"
+        threading.Thread(target=self.accept, daemon=True).start()
 
-
-def main():
-    words = argparse.ArgumentParser()
-    words.add_argument("--limit", type=float, default=60)
-    words.add_argument("port_file")
-    words.add_argument("received_file")
-    words.add_argument("plans", nargs="*")
-    given = words.parse_args()
-    server = socket.create_server(("127.0.0.1", 0))
-    server.settimeout(given.limit)
-    with open(given.port_file, "w") as out:
-        out.write(str(server.getsockname()[1]))
-    for plan in given.plans:
-        mode, digits = plan.split(":", 1)
-        connection, _ = server.accept()
-        with connection:
-            connection.settimeout(given.limit)
-            request = take_request(connection)
+    def accept(self):
+        while True:
             try:
-                answer(connection, mode, bytes.fromhex(digits))
-            except ConnectionError:
-                pass  # the peer refused the reply before it was all sent
-            more = rest_of(connection)
-        with open(given.received_file, "a") as out:
-            out.write((request + more).hex() + "\n")
+                connection, _ = self.listener.accept()
+            except OSError:
+                return
+            connection.setsockopt(socket.IPPROTO_TCP, socket.TCP_NODELAY, 1)
+            place = len(self.received)
+            self.received.append([])
+            thread = threading.Thread(target=self.serve, args=(connection, place), daemon=True)
+            self.threads.append(thread)
+            thread.start()
 
+    def serve(self, connection, place):
+        plan = self.plans[place] if place < len(self.plans) else None
+        given = 0
+        with connection:
+            connection.settimeout(WAIT_SECONDS)
+            try:
+                while plan is not None and (request := take_request(connection)):
+                    self.received[place].append(request.hex())
+                    if callable(plan):
+                        answer(connection, *plan(request.hex()))
+                    elif given < len(plan):
+                        answer(connection, *plan[given])
+                    given += 1
+            except OSError:
+                pass  # the other side went away, or sends no more
 
-main()
+    def end(self):
+        """What it received: a list of requests for each connection, in the order in which they were taken."""
+        for thread in self.threads:
+            thread.join(WAIT_SECONDS)
+        # (a shutdown wakes the thread that waits in accept)
+        self.listener.shutdown(socket.SHUT_RDWR)
+        self.listener.close()
+        return self.received

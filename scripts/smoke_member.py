@@ -306,7 +306,7 @@ def mdc_cases(program, mdc, compare):
     ])
     lines = ["n=1 modified=0", "n=1 modified=1", "n=1 modified=0", "n=0 modified=0", "n=1 modified=0"]
     wanted = "".join(f"{k}: ok {line} attempts=1\n" for k, line in enumerate(lines, 1)) + "done 5 ok 5\n"
-    done = subprocess.run([mdc, "run", member.host, "-", "test"], input=script, capture_output=True, text=True, timeout=WAIT_SECONDS)
+    done = subprocess.run([mdc, "run", f"mongodb://{member.host}"], input=script, capture_output=True, text=True, timeout=WAIT_SECONDS)
     compare("mdc against the member", (done.returncode, done.stdout, done.stderr), (0, wanted, ""))
     compare("the member of that", member.end(), (0, "", ""))
 

@@ -1,8 +1,8 @@
-/* A loopback server for the measurement of inserts: answers each hello as a standalone server does, each insert by
- * {n: 1, ok: 1.0} and any other command by {ok: 1.0}, and keeps nothing. One thread, with epoll(7). It ends when its
- * standard input does.
+/* A loopback server for the measurement of commands: answers each hello as a standalone server does, each insert by
+ * {n: 1, ok: 1.0}, each find by a cursor that ends with its first batch, {_id: 7}, and any other command by {ok: 1.0}, and
+ * keeps nothing. One thread, with epoll(7). It ends when its standard input does.
  *
- * usage: insert_peer PORT_FILE */
+ * usage: command_peer PORT_FILE */
 #define _GNU_SOURCE
 #include <arpa/inet.h>
 #include <netinet/in.h>
@@ -26,7 +26,7 @@ struct connection {
   unsigned char bytes[ROOM];
 };
 
-static unsigned char hello[512], inserted[64], accepted[64];
+static unsigned char hello[512], inserted[64], found[128], accepted[64];
 
 static uint32_t number(const unsigned char *at) {
   return at[0] | at[1] << 8 | at[2] << 16 | (uint32_t) at[3] << 24;
@@ -53,6 +53,31 @@ static void close_document(unsigned char *front, unsigned char *end) {
   put(front, end + 1 - front);
 }
 
+/* The front of a document or an array that stands in another: its kind and name; close_document ends it. */
+static unsigned char *open_field(unsigned char *at, int kind, const char *name) {
+  *at++ = kind;
+  return (unsigned char *) stpcpy((char *) at, name) + 1;
+}
+
+static unsigned char *end_document(unsigned char *front, unsigned char *end) {
+  close_document(front, end);
+  return end + 1;
+}
+
+/* {cursor: {firstBatch: [{_id: 7}], id: 0, ns: "test.a"}, ok: 1.0} */
+static void make_found(void) {
+  unsigned char *cursor = open_field(found + 4, 3, "cursor");
+  unsigned char *batch = open_field(cursor + 4, 4, "firstBatch");
+  unsigned char *document = open_field(batch + 4, 3, "0");
+  unsigned char *at = end_document(document, field(document + 4, 16, "_id", 7, 4));
+  at = end_document(batch, at);
+  at = field(at, 18, "id", 0, 8);
+  at = put(open_field(at, 2, "ns"), sizeof "test.a");
+  memcpy(at, "test.a", sizeof "test.a");
+  at = end_document(cursor, at + sizeof "test.a");
+  close_document(found, ok(at));
+}
+
 static void make_answers(void) {
   unsigned char *at = hello + 4;
   at = field(at, 8, "ismaster", 1, 1);
@@ -66,12 +91,14 @@ static void make_answers(void) {
   close_document(hello, ok(at));
   close_document(inserted, ok(field(inserted + 4, 16, "n", 1, 4)));
   close_document(accepted, ok(accepted + 4));
+  make_found();
 }
 
 /* The answer's document, by the name of the command's first element. A document begins with its length and a type. */
 static const unsigned char *answer_to(const unsigned char *document) {
   const char *name = (const char *) document + 5;
   if (!strcmp(name, "insert")) return inserted;
+  if (!strcmp(name, "find")) return found;
   return strcasecmp(name, "ismaster") && strcmp(name, "hello") ? accepted : hello;
 }
 

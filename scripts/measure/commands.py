@@ -1,0 +1,80 @@
+"""Measures commands of one lane over loopback. Each program sends COUNT inserts or finds to the peer, ROUNDS times in turn;
+prints of each the quickest and the middle run, from its start to its end, what the quickest took of a processor, and the most
+memory that a run held.
+
+usage: commands.py PEER MDC insert|find COUNT ROUNDS [NAME PROGRAM]..    with an odd number of rounds; a PROGRAM is given
+PORT COUNT insert|find
+"""
+
+import os
+import subprocess
+import sys
+import tempfile
+import time
+from pathlib import Path
+
+LINES = {
+    "insert": '{"lane":1,"op":"insert","coll":"a","doc":{"_id":7}}\n',
+    "find": '{"lane":1,"op":"find","coll":"a","filter":{"_id":7}}\n',
+}
+
+
+class Run:
+    """A run of a program: how long it took and how long of a processor, in seconds, and its memory at the most, in bytes."""
+
+    def __init__(self, words, folder, script=""):
+        files = [Path(folder, name) for name in ("script", "out", "complaints")]
+        files[0].write_text(script)
+        with open(files[0]) as read, open(files[1], "w") as out, open(files[2], "w") as complaints:
+            began = time.perf_counter()
+            child = subprocess.Popen(words, stdin=read, stdout=out, stderr=complaints)
+            _, status, used = os.wait4(child.pid, 0)
+            self.seconds = time.perf_counter() - began
+        child.returncode = os.waitstatus_to_exitcode(status)
+        if child.returncode != 0:
+            sys.exit(f"{words[0]} ended with status {child.returncode}: {files[2].read_text()[-500:]}")
+        self.processor = used.ru_utime + used.ru_stime
+        self.memory = used.ru_maxrss * 1024
+        self.out = files[1].read_text()
+
+
+def run_mdc(mdc, port, kind, count, folder):
+    run = Run([mdc, "run", f"mongodb://127.0.0.1:{port}"], folder, LINES[kind] * count)
+    if not run.out.endswith(f"\ndone {count} ok {count}\n"):
+        sys.exit(f"mdc did not carry out all: {run.out[-200:]}")
+    return run
+
+
+def port_of(path):
+    for _ in range(200):
+        if path.exists() and path.read_text():
+            return path.read_text()
+        time.sleep(0.02)
+    sys.exit("the peer did not start")
+
+
+def main():
+    peer, mdc, kind, count, rounds, *others = sys.argv[1:]
+    count, rounds = int(count), int(rounds)
+    with tempfile.TemporaryDirectory() as folder:
+        programs = {"mdc": lambda port: run_mdc(mdc, port, kind, count, folder)}
+        for name, program in zip(others[::2], others[1::2]):
+            programs[name] = lambda port, program=program: Run([program, port, str(count), kind], folder)
+        port_file = Path(folder, "port")
+        with subprocess.Popen([peer, port_file], stdin=subprocess.PIPE) as serving:
+            port = port_of(port_file)
+            runs = {name: [] for name in programs}
+            for _ in range(rounds):
+                for name, program in programs.items():
+                    runs[name].append(program(port))
+            serving.stdin.close()
+    print(f"{kind + 's of one lane, ' + str(count):46} {'us, quickest':>13} {'us, middle':>11} {'a second':>9} {'us, processor':>14} {'MB':>6}")
+    for name, done in runs.items():
+        times = sorted(run.seconds for run in done)
+        processor = min(run.processor for run in done)
+        memory = max(run.memory for run in done)
+        print(f"{name:46} {times[0] * 1e6 / count:13.1f} {times[rounds // 2] * 1e6 / count:11.1f} {count / times[0]:9.0f}"
+              f" {processor * 1e6 / count:14.1f} {memory / 1e6:6.1f}")
+
+
+main()

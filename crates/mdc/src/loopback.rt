@@ -10,13 +10,13 @@ use msg_wire::{Message, MsgFault, read};
 use net_link::{SliceSource, VecSink};
 use shell_top::{Status, run};
 use std::alloc::{AllocError, Global};
-use std::io::{Read, Write};
+use std::io::{ErrorKind, Read, Write};
 use std::net::{Net, TcpListener};
 use std::random::RandomSource;
 use std::sync::Wait;
 use std::test::Fail;
-use std::thread;
 use std::time::Clock;
+use std::{io, thread};
 
 /// The script of one insert.
 const SCRIPT: &str = r#"{"lane":1,"op":"insert","coll":"a","doc":{"_id":7}}"#;
@@ -28,6 +28,14 @@ const REPORT: &str = "1: ok n=1 modified=0 attempts=1\ndone 1 ok 1\n";
 #[derive(Debug, Drop)]
 struct NoRequest;
 
+/// Whether the client ended the stream: it leaves the answer to its farewell unread, so its end may reset the stream.
+fn is_end(error: &io::Error) -> bool {
+    matches!(
+        error.kind(),
+        ErrorKind::ConnectionReset | ErrorKind::BrokenPipe
+    )
+}
+
 /// The next message of a stream, however it is cut; none where the client ended the stream.
 fn request_on(alloc: Global, stream: &mut impl Read) -> Result<Option<Message>, Fail> {
     let mut held = Vec::new(alloc);
@@ -38,7 +46,11 @@ fn request_on(alloc: Global, stream: &mut impl Read) -> Result<Option<Message>, 
             Err(MsgFault::Short { .. }) => {}
             Err(_) => return Err(Fail::from(NoRequest)),
         }
-        let count = stream.read(&mut piece)?;
+        let count = match stream.read(&mut piece) {
+            Ok(count) => count,
+            Err(error) if is_end(&error) => 0,
+            Err(error) => return Err(Fail::from(error)),
+        };
         if count == 0 {
             return Ok(None);
         }
@@ -47,7 +59,7 @@ fn request_on(alloc: Global, stream: &mut impl Read) -> Result<Option<Message>, 
     Ok(None)
 }
 
-/// Has the member answer the next request of a stream, and says whether there was one.
+/// Has the member answer the next request of a stream, and says whether there may be another.
 fn answer_on<S: Read + Write>(
     alloc: Global,
     stream: &mut S,
@@ -57,8 +69,11 @@ fn answer_on<S: Read + Write>(
         return Ok(false);
     };
     let answer = member.answer(alloc, &request, 0, 0, 0, true)?;
-    stream.write_all(answer.bytes.as_slice())?;
-    Ok(true)
+    match stream.write_all(answer.bytes.as_slice()) {
+        Ok(()) => Ok(true),
+        Err(error) if is_end(&error) => Ok(false),
+        Err(error) => Err(Fail::from(error)),
+    }
 }
 
 /// Has the member answer the first check of a client, and then all that its first connection asks.

@@ -6,8 +6,12 @@ use mio::net::TcpStream;
 use net_link::{Came, Dialed, Net, Wrote};
 use std::alloc::Global;
 use std::io;
-use std::io::{ErrorKind, Read, Write};
+use std::io::{BufReader, ErrorKind, Read, Write};
 use std::net::{Net as Sockets, SocketAddr, ToSocketAddrs};
+
+/// The most bytes that a socket is read ahead of what a caller asks for: a message's header and a short message behind it are
+/// one call of the system. Of a longer one what is behind these bytes is read to where the caller wants it.
+const AHEAD: usize = 512;
 
 /// A net of non-blocking sockets, which send at once what they are given (TCP_NODELAY). It tells nothing.
 ///
@@ -16,6 +20,7 @@ use std::net::{Net as Sockets, SocketAddr, ToSocketAddrs};
 /// sockets is ready.
 #[derive(Drop)]
 pub struct SocketNet<'a, H: Sockets> {
+    alloc: Global,
     handle: &'a H,
     watch: &'a SocketWatch,
     lines: Vec<Line>,
@@ -27,12 +32,13 @@ pub struct SocketNet<'a, H: Sockets> {
 #[derive(Drop)]
 struct Line {
     stream: u64,
-    socket: TcpStream,
+    socket: BufReader<TcpStream>,
 }
 
 impl<'a, H: Sockets> SocketNet<'a, H> {
     pub fn new(alloc: Global, handle: &'a H, watch: &'a SocketWatch) -> SocketNet<'a, H> {
         SocketNet {
+            alloc,
             handle,
             watch,
             lines: Vec::new(alloc),
@@ -51,7 +57,7 @@ impl<'a, H: Sockets> SocketNet<'a, H> {
     }
 
     /// Begins a connection to the first address that the text names.
-    fn connect(&self, address: &str) -> io::Result<TcpStream> {
+    fn connect(&self, address: &str) -> io::Result<BufReader<TcpStream>> {
         let found = match address.parse::<SocketAddr>() {
             Ok(digits) => Some(digits),
             Err(_) => address.to_socket_addrs(self.handle)?.next(),
@@ -63,11 +69,11 @@ impl<'a, H: Sockets> SocketNet<'a, H> {
         // A socket that gathers small pieces all the same is slower, no more.
         let _ = socket.set_nodelay(true);
         self.watch.watch(&mut socket);
-        Ok(socket)
+        BufReader::with_capacity(self.alloc, AHEAD, socket)
     }
 }
 
-fn find(lines: &mut Vec<Line>, stream: u64) -> Option<&mut TcpStream> {
+fn find(lines: &mut Vec<Line>, stream: u64) -> Option<&mut BufReader<TcpStream>> {
     for line in lines.iter_mut() {
         if line.stream == stream {
             return Some(&mut line.socket);
@@ -133,7 +139,7 @@ impl<'a, H: Sockets> Net for SocketNet<'a, H> {
 
     fn write(&mut self, stream: u64, bytes: &[u8]) -> Wrote {
         let result = match find(&mut self.lines, stream) {
-            Some(socket) => socket.write(bytes),
+            Some(socket) => socket.get_mut().write(bytes),
             None => Err(io::Error::from(ErrorKind::NotFound)),
         };
         match result {

@@ -3,10 +3,12 @@ pub mod Counts
 mod DepthLemmas
 mod Elections
 pub mod Growth
+pub mod IndexLemmas
 pub mod MarkLemmas
 mod OneWrite
 pub mod PlaceLemmas
 pub mod Runs
+pub mod ShareLemmas
 mod SizeLemmas
 pub mod SmallReplies
 pub mod Sounds

@@ -40,7 +40,7 @@ added_bits false true false = refl
 added_bits false false true = refl
 added_bits false false false = refl
 
-is_acked-append : (some more : List Kept) (key : Key) → is_acked (some ++ more) key ≡ (is_acked some key || is_acked more key)
+pub is_acked-append : (some more : List Kept) (key : Key) → is_acked (some ++ more) key ≡ (is_acked some key || is_acked more key)
 is_acked-append [] more key = refl
 is_acked-append (kept ∷ some) more key =
     elim (same_key kept.0.key key && kept.1) as (λ b. (b || is_acked (some ++ more) key) ≡ ((b || is_acked some key) || is_acked more key)) [ true ↦ refl | false ↦ is_acked-append some more key ]

@@ -90,7 +90,7 @@ some_entry = record { key = Numbered (record { 0 = [] }) (pos 0); stream = 0; nt
 
 -- ---- a log that was gathered, beside what is known of each entry
 
-zip-map : (f : LogEntry → Bool) (log : List LogEntry) → zip log (map f log) ≡ map (λ entry. (entry, f entry)) log
+pub zip-map : (f : LogEntry → Bool) (log : List LogEntry) → zip log (map f log) ≡ map (λ entry. (entry, f entry)) log
 zip-map f [] = refl
 zip-map f (entry ∷ log) = ap (λ l. (entry, f entry) ∷ l) (zip-map f log)
 

@@ -1,7 +1,6 @@
 -- What a member keeps.
 -- own: the refinement.
-use Rattle.std.specs.Prelude.{◌≡◌, ◌+◌, ◌<◌, ◌≤◌, length}
-use Rattle.std.specs.List.{zip}
+use Rattle.std.specs.Prelude.{◌+◌, ◌<◌, ◌≤◌, length}
 use Rattle.bson_doc.specs.Documents.{depth_of}
 use Rattle.bson_doc.specs.declared.value.Document.{Document}
 use Rattle.bson_doc.specs.wire.Limits.{most_levels}
@@ -11,13 +10,12 @@ use Rattle.member_core.specs.Members.{MemberState}
 use Rattle.member_core.specs.Sizes.{IsWithin}
 use Rattle.member_core.specs.declared.member.Member.TheInside.{Inside}
 
--- The member that the fields stand for: each entry of the log has its mark at the same place of the marks.
+-- The member that the fields stand for.
 abbrev pub state_of : Inside → MemberState
-state_of m = record { set = m.set; hosts = m.hosts; place = m.place; log = zip m.log m.marks.items; election = m.election; changes = m.changes }
+state_of m = record { set = m.set; hosts = m.hosts; place = m.place; log = m.log; election = m.election; changes = m.changes }
 
--- There are as many marks as entries, the member's place is one of the hosts, and the set is within its bound.
+-- The member's place is one of the hosts, and the set is within its bound.
 pub record IsKept (m : Inside) : Type 0 where
-  pub marks : length m.marks.items ≡ length m.log
   pub place : m.place < length m.hosts
   pub within : IsWithin m.set m.hosts
 

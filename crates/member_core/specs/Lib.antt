@@ -4,6 +4,8 @@ pub mod Keys
 pub mod Logs
 pub mod Members
 pub mod Once
+pub mod Places
 pub mod Replies
+pub mod Shares
 pub mod Sizes
 pub mod Standing

@@ -1,13 +1,14 @@
 //! How a member answers a request.
-ghost use Rattle.std.specs.Prelude.{◌≡◌, ◌++◌, ◌∷◌, [], IfOk, OnOk, OnErr, if◌then◌else◌};
+ghost use Rattle.std.specs.Prelude.{◌≡◌, ◌==◌, ◌++◌, ◌∷◌, [], length, IfOk, OnOk, OnErr, if◌then◌else◌};
 ghost use Rattle.msg_wire.specs.Framing.{Framed, frame, message_of};
 ghost use Rattle.member_core.specs.Inside.{IsSmall};
 ghost use Rattle.member_core.specs.Keys.{is_write as writes};
 ghost use Rattle.member_core.specs.Logs.{times};
 ghost use Rattle.member_core.specs.Members.{effect_of as effect_of_request, entries, logged, marked, takes_writes as takes_any, with_answer, write_effect};
+ghost use Rattle.net_link.specs.declared.event.Effect.TheVariants.{Added};
+ghost use Rattle.member_core.specs.Shares.{IsShared};
 ghost use Rattle.member_core.specs.Replies.{answer_bytes, read_reply, reply_by, reply_of};
 
-use crate::places::{lacks, place_of};
 use crate::request::{command_name, is_write, key_of};
 use crate::write_reply::{find_reply, plain_ok, refusal, write_result};
 use crate::{Key, LogEntry, Member, Memory};
@@ -24,6 +25,8 @@ pub struct Answered {
     pub bytes: Bytes,
     /// What the request did to the member's log.
     pub effect: Effect,
+    /// How many entries at the front of the log stayed as they were, marks too.
+    pub kept: usize,
 }
 
 impl Member {
@@ -43,14 +46,19 @@ impl Member {
         ensures bytes { IfOk result (λ a. a.bytes ≡ answer_bytes self.old message.now id stream nth lead) }
         ensures framed { IfOk result (λ a. Framed a.bytes (message_of id message.now.id 0 (reply_of self.old message.now.body stream nth lead))) }
         ensures member { OnOk result (self.new ≡ with_answer self.old message.now.body stream nth lead) }
+        ensures kept { IfOk result (λ a. IsShared a.kept self.old.log self.new.log) }
         ensures err { OnErr result (self.new ≡ self.old) }
     {
         let key = key_of(&message.body, stream, nth);
         let effect = self.effect_of(&message.body, &key);
         let reply = self.reply(alloc, command_name(&message.body), lead, effect)?;
         let bytes = framed(alloc, id, message.id, &reply)?;
-        self.note(LogEntry { key, stream, nth }, lead, effect)?;
-        Ok(Answered { bytes, effect })
+        let kept = self.note(alloc, LogEntry { key, stream, nth }, lead, effect)?;
+        Ok(Answered {
+            bytes,
+            effect,
+            kept,
+        })
     }
 
     /// What a request with that document and key does.
@@ -61,7 +69,7 @@ impl Member {
             Effect::Nothing
         } else if !self.takes_writes() {
             Effect::Refused
-        } else if lacks(self.log().as_slice(), key) {
+        } else if self.lacks(key) {
             Effect::Added
         } else {
             Effect::Known
@@ -116,42 +124,64 @@ impl Member {
         }
     }
 
-    /// Keeps what a request did.
-    fn note(&mut self, entry: LogEntry, lead: bool, effect: Effect) -> Result<(), Memory>
+    /// Keeps what a request did, and answers how many entries at the front of the log stayed as they were.
+    fn note(
+        &mut self,
+        alloc: Global,
+        entry: LogEntry,
+        lead: bool,
+        effect: Effect,
+    ) -> Result<usize, Memory>
+        requires lacks { effect ≡ Added → times entry.key (entries self.old.log) ≡ 0 }
         ensures ok { OnOk result (self.new ≡ record self.old { log = logged lead entry effect self.old.log }) }
+        ensures kept { IfOk result (λ kept. IsShared kept self.old.log self.new.log) }
         ensures err { OnErr result (self.new ≡ self.old) }
     {
         match effect {
-            Effect::Added => self.add(entry, lead),
+            Effect::Added => self.add(alloc, entry, lead),
             Effect::Known => {
                 if lead {
-                    self.mark(&entry.key);
+                    return Ok(self.mark(&entry.key));
                 }
-                Ok(())
+                Ok(self.count())
             }
-            Effect::Refused => Ok(()),
-            Effect::Nothing => Ok(()),
+            Effect::Refused => Ok(self.count()),
+            Effect::Nothing => Ok(self.count()),
         }
+    }
+
+    /// How many entries its log has.
+    fn count(&self) -> usize
+        ensures { result ≡ length self.now.log }
+    {
+        self.log.len()
+    }
+
+    /// Whether no entry has the key.
+    fn lacks(&self, key: &Key) -> bool
+        ensures { result ≡ (times key.now (entries self.now.log) == 0) }
+    {
+        self.log.lacks(key)
     }
 
     /// Adds an entry behind the others.
-    fn add(&mut self, entry: LogEntry, acked: bool) -> Result<(), Memory>
+    fn add(&mut self, alloc: Global, entry: LogEntry, acked: bool) -> Result<usize, Memory>
+        requires lacks { times entry.key (entries self.old.log) ≡ 0 }
         ensures ok { OnOk result (self.new ≡ record self.old { log = self.old.log ++ (entry, acked) ∷ [] }) }
+        ensures kept { IfOk result (λ kept. IsShared kept self.old.log self.new.log) }
         ensures err { OnErr result (self.new ≡ self.old) }
     {
-        self.marks.reserve(1)?;
-        self.log.push(entry)?;
-        self.marks.push_reserved(acked);
-        Ok(())
+        let kept = self.log.len();
+        self.log.add(alloc, entry, acked)?;
+        Ok(kept)
     }
 
-    /// Marks the key's first entry as acknowledged.
-    fn mark(&mut self, key: &Key)
-        ensures { self.new ≡ record self.old { log = marked key.now self.old.log } }
+    /// Marks the key's entry as acknowledged.
+    fn mark(&mut self, key: &Key) -> usize
+        ensures member { self.new ≡ record self.old { log = marked key.now self.old.log } }
+        ensures kept { IsShared result self.old.log self.new.log }
     {
-        if let Some(place) = place_of(self.log.as_slice(), key) {
-            self.marks[place] = true;
-        }
+        self.log.mark(key)
     }
 }
 

@@ -4,7 +4,7 @@ ghost use Rattle.member_core.specs.Keys.{same_key};
 use bson_doc::Lsid;
 
 /// What a member knows a write by, so that one that comes again is not done again.
-#[derive(Clone, Copy, Debug, Drop)]
+#[derive(Clone, Copy, Debug, PartialEq, Eq, PartialOrd, Ord, Drop)]
 pub enum Key {
     /// The session's id and the transaction number that the command carries (Retryable Writes).
     Numbered { lsid: Lsid, number: i64 },

@@ -18,6 +18,7 @@
 mod answering;
 mod electing;
 mod hello_reply;
+mod kept_log;
 mod key;
 pub mod laws;
 mod log;

@@ -2,6 +2,7 @@ ghost use Rattle.std.specs.Prelude.{◌≡◌, ◌<◌, length, IfOk};
 ghost use Rattle.member_core.specs.Members.{entries, new_member, takes_writes as takes_any};
 ghost use Rattle.member_core.specs.Sizes.{IsWithin};
 
+use crate::kept_log::KeptLog;
 use crate::{LogEntry, Memory};
 use bson_doc::{Rows, Text};
 use host_name::Host;
@@ -15,8 +16,7 @@ pub struct Member {
     pub(crate) set: Text,
     pub(crate) hosts: Rows<Host>,
     pub(crate) place: u32,
-    pub(crate) log: Rows<LogEntry>,
-    pub(crate) marks: Vec<bool>,
+    pub(crate) log: KeptLog,
     pub(crate) election: Option<u64>,
     pub(crate) changes: u32,
 }
@@ -45,8 +45,7 @@ impl Member {
             set: Text::take(alloc, set)?,
             hosts: copied(alloc, hosts)?,
             place,
-            log: Rows::new(alloc),
-            marks: Vec::new(alloc),
+            log: KeptLog::new(alloc),
             election: if place == 0 { Some(1) } else { None },
             changes: 0,
         })
@@ -70,7 +69,7 @@ impl Member {
     pub fn log(&self) -> &Rows<LogEntry>
         ensures value { result.now ≡ entries self.now.log }
     {
-        &self.log
+        self.log.entries()
     }
 }
 

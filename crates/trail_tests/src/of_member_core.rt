@@ -46,7 +46,42 @@ fn a_write_is_added(rt: HostRuntime) -> Result<(), Fail> {
     let request = insert(rt.alloc())?;
     let answered = primary.answer(rt.alloc(), &request, 2, 0, 0, true)?;
     assert_eq!(rt; answered.effect, Effect::Added);
+    assert_eq!(rt; answered.kept, 0);
     assert_eq!(rt; primary.log().len(), 1);
+    Ok(())
+}
+
+#[test]
+fn logs_share_what_was_copied(rt: HostRuntime) -> Result<(), Fail> {
+    let mut primary = member(rt.alloc(), "rs")?;
+    let mut other = member(rt.alloc(), "rs")?;
+    let request = insert(rt.alloc())?;
+    for nth in 0..3 {
+        primary.answer(rt.alloc(), &request, 2, 0, nth, true)?;
+    }
+    assert_eq!(rt; other.shared_with(&primary, 0), 0);
+    other.follow(rt.alloc(), &primary, 0)?;
+    assert_eq!(rt; other.shared_with(&primary, 0), 3);
+    let again = primary.answer(rt.alloc(), &request, 2, 0, 3, true)?;
+    assert_eq!(rt; again.kept, 3);
+    other.elect(rt.alloc(), Some(&primary), 2, 3)?;
+    assert_eq!(rt; other.log().len(), 4);
+    assert_eq!(rt; other.shared_with(&primary, 3), 4);
+    Ok(())
+}
+
+#[test]
+fn a_write_without_acknowledgement_is_marked_later(rt: HostRuntime) -> Result<(), Fail> {
+    let mut primary = member(rt.alloc(), "rs")?;
+    let request = insert(rt.alloc())?;
+    for nth in 0..3 {
+        primary.answer(rt.alloc(), &request, 2, 0, nth, false)?;
+    }
+    let marked = primary.answer(rt.alloc(), &request, 2, 0, 1, true)?;
+    assert_eq!(rt; marked.effect, Effect::Known);
+    assert_eq!(rt; marked.kept, 1);
+    let known = primary.answer(rt.alloc(), &request, 2, 0, 1, true)?;
+    assert_eq!(rt; known.kept, 3);
     Ok(())
 }
 
@@ -54,9 +89,9 @@ fn a_write_is_added(rt: HostRuntime) -> Result<(), Fail> {
 fn roles_change(rt: HostRuntime) -> Result<(), Fail> {
     let mut a = member(rt.alloc(), "rs")?;
     let mut b = member(rt.alloc(), "rs")?;
-    a.follow(rt.alloc(), &b)?;
+    a.follow(rt.alloc(), &b, 0)?;
     assert!(rt; !a.takes_writes());
-    b.elect(rt.alloc(), Some(&a), 2)?;
+    b.elect(rt.alloc(), Some(&a), 2, 0)?;
     assert!(rt; b.takes_writes());
     assert_eq!(rt; b.place(), 0);
     Ok(())

@@ -1,6 +1,6 @@
-use Rattle.std.proofs.Common.{sym}
-use Rattle.std.proofs.lemmas.Slice.Zip.{firsts-zip}
+use Rattle.std.proofs.Common.{ap, ◌∙◌}
+use Rattle.member_core.specs.Members.{MemberState, entries}
 use Rattle.member_core.proofs.member.Member.log.Goals as goal
 
 pub returns : goal.returns
-returns c = record { value = rw (← c.self.view_is) (sym (firsts-zip c.self.inside.log c.self.inside.marks.items c.self.invariant.marks)) }
+returns c = record { value = c.entries.ensures.value ∙ ap (λ (m : MemberState). entries m.log) c.self.view_is }

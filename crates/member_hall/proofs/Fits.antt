@@ -1,12 +1,16 @@
 -- What a hall keeps behind a stream that is opened and one that is closed.
-use Rattle.std.proofs.Common.{◌≡◌, ◌<◌, ◌≤◌, ◌+◌, ℕ, zero, suc, Bool, List, [], ◌∷◌, ◌++◌, true, false, cond, eqb, length, set, refl, sym, ap, ◌∙◌, arith, subst}
+use Rattle.std.proofs.Common.{◌≡◌, ◌<◌, ◌≤◌, ◌+◌, ℕ, zero, suc, Bool, List, [], ◌∷◌, ◌++◌, true, false, cond, eqb, length, set, take, drop, refl, sym, ap, ◌∙◌, arith, subst}
+use Rattle.std.specs.List.{All, remove}
 use Rattle.std.proofs.lemmas.Bool.{eqb-true, eqb-false}
 use Rattle.std.proofs.lemmas.List.{get_or_append_left, get_or_push, length-set, length_push}
+use Rattle.std.proofs.lemmas.List.Elements.{All-append, All-drop, All-take}
 use Rattle.net_link.specs.declared.event.NetEvent.{NetEvent}
+use Rattle.member_hall.specs.Acts.{host_of}
 use Rattle.member_hall.specs.Halls.{HallState, IsLive, line_at, no_line}
 use Rattle.member_hall.specs.Inside.{IsFit, live_count}
 use Rattle.member_hall.specs.Lines.{LineState, new_line, shut_line}
 use Rattle.member_hall.specs.Streams.{IsLive-below}
+use Rattle.member_hall.specs.declared.act.Planned.{Planned}
 use Rattle.member_hall.proofs.Lines.{members_set}
 
 -- ---- one more stream
@@ -38,6 +42,26 @@ fit_open h new room more m fit there lines peers last plan unserved grows =
       unserved = λ t is. let under = fit.unserved t is in omega (arith, length_push h.lines (new_line m));
       kept = let under = fit.kept in omega (arith, count-push h.lines (new_line m));
     }))
+
+-- ---- other logs of the members
+
+pub fit_peers : (h new : HallState) (room more : ℕ) → IsFit h room → length new.peers ≡ length h.peers → new.last < length h.peers → new.lines ≡ h.lines → new.plan ≡ h.plan → new.unserved ≡ h.unserved → room ≤ more → IsFit new more
+fit_peers h new room more fit peers last lines plan unserved grows = record {
+  few = let under = fit.few in omega arith;
+  last = omega arith;
+  members = λ s below.
+      subst (λ (n : ℕ). (line_at new.lines s).member < n) (sym peers)
+      (subst (λ (ls : List LineState). s < length ls → (line_at ls s).member < length h.peers) (sym lines) (fit.members s) below);
+  hosts = subst (λ (n : ℕ). All (λ (p : Planned). host_of p.act < n) new.plan) (sym peers) (subst (λ (l : List Planned). All (λ (p : Planned). host_of p.act < length h.peers) l) (sym plan) fit.hosts);
+  unserved = λ s is. let under = fit.unserved s (sym unserved ∙ is) in let many : length new.lines ≡ length h.lines = ap length lines in omega arith;
+  kept = let under = fit.kept in let same : live_count new.lines ≡ live_count h.lines = ap live_count lines in omega arith;
+}
+
+-- ---- one act less
+
+pub hosts-remove : (n : ℕ) (plan : List Planned) (place : ℕ) → All (λ (p : Planned). host_of p.act < n) plan → All (λ (p : Planned). host_of p.act < n) (remove plan place)
+hosts-remove n plan place all =
+    All-append (λ (p : Planned). host_of p.act < n) (take place plan) (drop (suc place) plan) (All-take (λ (p : Planned). host_of p.act < n) place plan all) (All-drop (λ (p : Planned). host_of p.act < n) (suc place) plan all)
 
 -- ---- one less
 

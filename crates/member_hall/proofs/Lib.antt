@@ -4,11 +4,14 @@ pub mod Calling
 pub mod Fits
 pub mod Handling
 pub mod Honesty
+pub mod Lates
 pub mod Lines
 pub mod Makings
 pub mod Moves
+pub mod Ordering
 pub mod Peers
 pub mod Plans
 pub mod Playing
 pub mod Scenes
 pub mod Serving
+pub mod Sharing

@@ -1,12 +1,15 @@
 -- Acts that happen in the order of a plan.
-use Rattle.std.proofs.Common.{◌≡◌, ◌<◌, ◌≤◌, ◌+◌, ℕ, suc, Bool, List, [], ◌∷◌, ◌++◌, true, false, cond, eqb, ltb, length, take, drop, refl, sym, ap, ◌∙◌, arith, subst, append-nil, append_assoc}
+use Rattle.std.proofs.Common.{◌≡◌, ◌<◌, ◌+◌, ◌-◌, ℕ, suc, Bool, List, [], ◌∷◌, ◌++◌, true, false, cond, eqb, ltb, length, take, drop, refl, sym, ap, ◌∙◌, arith, subst, append-nil, append_assoc}
 use Rattle.std.specs.Prelude.{not, fold}
 use Rattle.std.specs.List.{filter, remove}
 use Rattle.std.proofs.Math.Seq.{drop-append_seam, take-append_seam}
-use Rattle.std.proofs.lemmas.List.{drop_all, drop_more, length-take-le, take_all, take_more}
+use Rattle.std.proofs.lemmas.List.{drop_more, length-take-le, take-append-drop, take_more}
+use Rattle.std.proofs.lemmas.List.Edits.{length-remove}
+use Rattle.std.proofs.lemmas.Bool.{lt-leb}
 use Rattle.net_link.specs.declared.event.NetEvent.TheVariants as event
 use Rattle.member_hall.specs.Acts.{elected, following, following_peer, happened, happened_there, host_of}
 use Rattle.member_hall.specs.Halls.{HallState, no_act, plan_at, with_peer}
+use Rattle.member_hall.specs.Orders.{ActsFrom}
 use Rattle.member_hall.specs.Playing.{Plays}
 use Rattle.member_hall.specs.Turns.{acted, is_due}
 use Rattle.member_hall.specs.declared.act.Act.{Act}
@@ -156,7 +159,18 @@ acts-gone h new place there due is =
     ∙ sym (ap (λ (l : List Planned). acts_from front l h) (drop_more h.plan place no_act there)
     ∙ ap (λ (b : Bool). cond b (acts_from front back (happened (plan_at h.plan place).act h)) (acts_from (front ++ plan_at h.plan place ∷ []) back h)) due)
 
--- All were looked at.
-pub acts-end : (h : HallState) (place : ℕ) → length h.plan ≤ place → acts_from (take place h.plan) (drop place h.plan) h ≡ h
+-- One act less is behind the place.
+pub gone-less : (h new : HallState) (place : ℕ) → place < length h.plan → new ≡ record (happened (plan_at h.plan place).act h) { plan = remove h.plan place } → length new.plan - place < length h.plan - place
+gone-less h new place there is = omega (arith, there, ap (λ (g : HallState). length g.plan + 1) is, length-remove h.plan place there)
+
+-- None from a place on is due.
+later-rest : (front rest : List Planned) (h : HallState) → ActsFrom (h.turn + 1) rest → acts_from front rest h ≡ record h { plan = front ++ rest }
 unfolding acts_from
-acts-end h place all = (λ i. acts_from (take_all place h.plan all i) (drop_all place h.plan all i) h)
+later-rest front [] h later = ap (λ (l : List Planned). record h { plan = l }) (sym (append-nil front))
+later-rest front (p ∷ rest) h later =
+    let early : is_due h.turn p ≡ false = lt-leb p.turn h.turn (omega (arith, later.0)) in
+    ap (λ (b : Bool). cond b (acts_from front rest (happened p.act h)) (acts_from (front ++ p ∷ []) rest h)) early
+    ∙ later-rest (front ++ p ∷ []) rest h later.1 ∙ ap (λ (l : List Planned). record h { plan = l }) (append_assoc front (p ∷ []) rest)
+
+pub acts-later : (h : HallState) (place : ℕ) → ActsFrom (h.turn + 1) (drop place h.plan) → acts_from (take place h.plan) (drop place h.plan) h ≡ h
+acts-later h place later = later-rest (take place h.plan) (drop place h.plan) h later ∙ ap (λ (l : List Planned). record h { plan = l }) (take-append-drop place h.plan)

@@ -21,11 +21,11 @@ peer_read h m n peer same there is = get_or_read h.peers m peer (subst (λ (k : 
 pub line_read : (h : HallState) (s : ℕ) (line : LineState) → s < length h.lines → line ≡ slice_index_or h.lines s line → line ≡ line_at h.lines s
 line_read h s line there is = get_or_read h.lines s line there is no_line
 
-put_is : (h : HallState) (s m : ℕ) (peer : PeerState) (line : LineState) (events : List NetEvent) (want : Scene) → m ≡ (line_at h.lines s).member → peer ≡ want.peer → line ≡ want.line → events ≡ want.events
+pub put_is : (h : HallState) (s m : ℕ) (peer : PeerState) (line : LineState) (events : List NetEvent) (want : Scene) → m ≡ (line_at h.lines s).member → peer ≡ want.peer → line ≡ want.line → events ≡ want.events
     → record h { peers = set h.peers m peer; lines = set h.lines s line; events = events } ≡ put_scene s want h
 put_is h s m peer line events want same p l e = λ i. record h { peers = set h.peers (same i) (p i); lines = set h.lines s (l i); events = e i }
 
-put_same : (h : HallState) (s : ℕ) → put_scene s (scene_in h s) h ≡ h
+pub put_same : (h : HallState) (s : ℕ) → put_scene s (scene_in h s) h ≡ h
 put_same h s = λ i. record h { peers = set-get_or h.peers (line_at h.lines s).member no_peer i; lines = set-get_or h.lines s no_line i; events = h.events }
 
 -- A call that makes a scene of another, or leaves all.

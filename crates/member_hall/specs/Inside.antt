@@ -1,11 +1,13 @@
 -- What a hall keeps, and what it shows of it.
 -- own: the refinement.
-use Rattle.std.specs.Prelude.{◌≡◌, ◌+◌, ◌^◌, ◌<◌, ◌≤◌, ℕ, List, [], ◌∷◌, All, Some, length, if◌then◌else◌}
+use Rattle.std.specs.Prelude.{◌≡◌, ◌+◌, ◌^◌, ◌<◌, ◌≤◌, ℕ, Bool, false, List, [], ◌∷◌, All, Contains, Option, Some, None, IsSome, length, nat_le, if◌then◌else◌}
 use Rattle.member_hall.specs.declared.act.Planned.{Planned}
+use Rattle.member_hall.specs.declared.late.LateRequest.{LateRequest}
 use Rattle.member_hall.specs.declared.hall_core.HallCore.TheInside.{Inside}
 use Rattle.member_hall.specs.Acts.{host_of}
 use Rattle.member_hall.specs.Halls.{HallState, line_at}
 use Rattle.member_hall.specs.Lines.{LineState}
+use Rattle.member_hall.specs.Shared.{HaveShares}
 
 -- The hall that the fields stand for.
 abbrev pub hall_of : Inside → HallState
@@ -13,7 +15,7 @@ hall_of c = record {
   peers = c.peers.items;
   last = c.last;
   elections = c.elections;
-  plan = c.plan.items;
+  plan = c.plan;
   turn = c.turn;
   lines = c.lines.items;
   unserved = c.unserved;
@@ -35,5 +37,21 @@ pub record IsFit (h : HallState) (room : ℕ) : Type 0 where
   pub unserved : (s : ℕ) → h.unserved ≡ Some s → s < length h.lines
   pub kept : live_count h.lines ≤ room
 
-abbrev pub IsKept : Inside → Type 0
-IsKept c = IsFit (hall_of c) c.log.kept
+-- A late request that is to be handled at a turn.
+abbrev pub is_late : ℕ → Option LateRequest → Bool
+is_late turn None = false
+is_late turn (Some late) = nat_le late.due turn
+
+-- Of these streams, from one up to another, none has one.
+abbrev pub NoneLate : HallState → ℕ → ℕ → Type 0
+NoneLate h from to = (s : ℕ) → from ≤ s → s < to → is_late h.turn (line_at h.lines s).late ≡ false
+
+-- Each stream that holds a late request stands in the list.
+abbrev pub HaveLate : List ℕ → List LineState → Type 0
+HaveLate streams lines = (s : ℕ) → IsSome (line_at lines s).late → Contains streams s
+
+-- All of it.
+pub record IsKept (c : Inside) : Type 0 where
+  pub fit : IsFit (hall_of c) c.log.kept
+  pub shares : HaveShares c.shares c.peers.items c.last
+  pub late : HaveLate c.late.items c.lines.items

@@ -5,8 +5,10 @@ pub mod Honest
 pub mod Inside
 pub mod Lines
 pub mod Making
+pub mod Orders
 pub mod Plans
 pub mod Playing
 pub mod Requests
+pub mod Shared
 pub mod Streams
 pub mod Turns

@@ -71,10 +71,11 @@ impl Hall {
         if let Some(fault) = fault_in(hosts, acts.as_slice()) {
             return Err(fault);
         }
-        match members(alloc, set, hosts) {
-            Ok(peers) => Ok(Hall {
-                core: HallCore::new(alloc, peers, acts),
-            }),
+        let Ok(peers) = members(alloc, set, hosts) else {
+            return Err(HallFault::Memory);
+        };
+        match HallCore::new(alloc, peers, acts) {
+            Ok(core) => Ok(Hall { core }),
             Err(_) => Err(HallFault::Memory),
         }
     }

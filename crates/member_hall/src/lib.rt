@@ -35,9 +35,11 @@ mod line;
 mod making;
 mod peer;
 mod place;
+mod plan;
 mod refusal;
 mod requests;
 mod rule;
+mod shares;
 mod tail;
 
 pub use act::{Act, Planned};

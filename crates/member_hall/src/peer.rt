@@ -1,5 +1,6 @@
 ghost use Rattle.std.specs.Prelude.{◌≡◌, ◌<◌, [], length, drop, slice_get, Some, None, IfOk, OnOk, OnErr};
-ghost use Rattle.member_core.specs.Members.{with_election, with_log};
+ghost use Rattle.member_core.specs.Members.{elected_log, with_election, with_log};
+ghost use Rattle.member_core.specs.Shares.{IsShared};
 ghost use Rattle.member_core.specs.Sizes.{IsWithin};
 ghost use Rattle.member_hall.specs.Acts.{met};
 ghost use Rattle.member_hall.specs.Calls.{takes_dials as reached_by};
@@ -96,28 +97,44 @@ impl Peer {
         Ok(())
     }
 
+    /// How many entries its log has.
+    pub fn logged(&self) -> usize
+        ensures { result ≡ length self.now.member.log }
+    {
+        self.member.log().len()
+    }
+
     /// It is elected again, by the election of that number.
     pub fn stay_elected(&mut self, number: u64) -> Result<(), Memory>
         ensures ok { OnOk result (self.new ≡ record self.old { member = with_election self.old.member None number }) }
         ensures err { OnErr result (self.new ≡ self.old) }
     {
-        self.member.elect(self.alloc, None, number)
+        self.member.elect(self.alloc, None, number, 0)
     }
 
-    /// It is elected behind another member, by the election of that number.
-    pub fn elect_behind(&mut self, last: &Peer, number: u64) -> Result<(), Memory>
+    /// It is elected behind another member, by the election of that number. So many entries at the front of their logs are known to
+    /// be the same; it answers how many are so then.
+    pub fn elect_behind(&mut self, last: &Peer, number: u64, shared: usize) -> Result<usize, Memory>
+        requires { IsShared shared self.old.member.log last.now.member.log }
         ensures ok { OnOk result (self.new ≡ record self.old { member = with_election self.old.member (Some last.now.member.log) number }) }
+        ensures found { IfOk result (λ found. IsShared found (elected_log (Some last.now.member.log) self.old.member.log) last.now.member.log) }
         ensures err { OnErr result (self.new ≡ self.old) }
     {
-        self.member.elect(self.alloc, Some(&last.member), number)
+        self.member
+            .elect(self.alloc, Some(&last.member), number, shared)?;
+        Ok(self.member.shared_with(&last.member, shared))
     }
 
-    /// It follows another member.
-    pub fn follow(&mut self, other: &Peer) -> Result<(), Memory>
+    /// It follows another member. So many entries at the front of their logs are known to be the same; it answers how many its log
+    /// has then.
+    pub fn follow(&mut self, other: &Peer, shared: usize) -> Result<usize, Memory>
+        requires { IsShared shared self.old.member.log other.now.member.log }
         ensures ok { OnOk result (self.new ≡ record self.old { member = with_log self.old.member other.now.member.log }) }
+        ensures count { IfOk result (λ count. count ≡ length other.now.member.log) }
         ensures err { OnErr result (self.new ≡ self.old) }
     {
-        self.member.follow(self.alloc, &other.member)
+        self.member.follow(self.alloc, &other.member, shared)?;
+        Ok(self.logged())
     }
 
     /// What the next write request meets, if anything.

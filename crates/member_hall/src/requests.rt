@@ -6,6 +6,7 @@ ghost use Rattle.net_link.specs.declared.event.Effect.TheVariants as effects;
 ghost use Rattle.member_core.specs.Keys.{command_name as name_of_command, is_write as writes};
 ghost use Rattle.member_core.specs.Members.{effect_of, with_answer};
 ghost use Rattle.member_core.specs.Replies.{answer_bytes, reply_of};
+ghost use Rattle.member_core.specs.Shares.{IsShared};
 ghost use Rattle.member_hall.specs.Lines.{end_line};
 ghost use Rattle.member_hall.specs.Requests.{IsFramedBy, due_by, late_scene, id_of as id_of_answer, refusal as refusal_of, request as requested, rule_of, scene};
 
@@ -19,23 +20,26 @@ use crate::refusal::refusal;
 use crate::rule::Rule;
 use crate::tail::Tail;
 use bson_doc::{Bytes, Document};
+use member_core::Answered;
 use msg_wire::{Message, write};
 use net_link::{Effect, EventLog, NetEvent};
 use std::alloc::AllocError;
 
-/// A request that stands whole at the front of the line's rest comes to the line's member.
+/// A request that stands whole at the front of the line's rest comes to the line's member. It answers how many entries at the front of
+/// the member's log stayed as they were.
 pub fn request(
     at: Place,
     message: Message,
     peer: &mut Peer,
     line: &mut Line,
     log: &mut EventLog,
-) -> Result<(), Memory>
+) -> Result<usize, Memory>
     requires rest { message.length ≤ length line.old.rest }
     ensures peer { OnOk result (peer.new ≡ (requested at message (scene peer.old line.old log.old.events)).peer) }
     ensures line { OnOk result (line.new ≡ (requested at message (scene peer.old line.old log.old.events)).line) }
     ensures events { OnOk result (log.new.events ≡ (requested at message (scene peer.old line.old log.old.events)).events) }
     ensures framed { OnOk result (IsFramedBy (rule_of peer.old message) at message peer.old.member) }
+    ensures kept { IfOk result (λ kept. IsShared kept peer.old.member.log peer.new.member.log) }
     ensures room { log.old.kept ≤ log.new.kept }
     ensures err { OnErr result ((peer.new ≡ peer.old) × (line.new ≡ line.old) × (log.new.events ≡ log.old.events)) }
 {
@@ -49,14 +53,14 @@ pub fn request(
         Some(Rule::Drop) => {
             peer.follow_rule();
             line.end(at.turn);
-            Ok(())
+            Ok(peer.logged())
         }
         Some(Rule::Mute) => muted(at, &message, peer, line, log),
         Some(Rule::Late { turns }) => {
             peer.follow_rule();
             let due = at.turn.saturating_add(turns);
             line.postpone(at.turn, LateRequest { due, message });
-            Ok(())
+            Ok(peer.logged())
         }
         Some(
             Rule::Refuse {
@@ -66,7 +70,8 @@ pub fn request(
             },
         ) => {
             let bytes = refused(peer, code, retryable, no_writes, at, &message)?;
-            refuse(at, &message, bytes, peer, line, log)
+            refuse(at, &message, bytes, peer, line, log)?;
+            Ok(peer.logged())
         }
     }
 }
@@ -78,7 +83,7 @@ fn answered(
     peer: &mut Peer,
     line: &mut Line,
     log: &mut EventLog,
-) -> Result<(), Memory>
+) -> Result<usize, Memory>
     requires rest { message.now.length ≤ length line.old.rest }
     ensures peer { OnOk result (peer.new ≡ record peer.old { member = with_answer peer.old.member message.now.body at.stream at.nth at.lead; holds = drop 1 peer.old.holds }) }
     ensures line { OnOk result (line.new ≡ record line.old {
@@ -88,6 +93,7 @@ fn answered(
     }) }
     ensures events { OnOk result (log.new.events ≡ log.old.events ++ event.Handled at.member at.stream at.nth (effect_of peer.old.member message.now.body at.stream at.nth) ∷ []) }
     ensures framed { OnOk result (IsFramedBy None at message.now peer.old.member) }
+    ensures kept { IfOk result (λ kept. IsShared kept peer.old.member.log peer.new.member.log) }
     ensures room { log.old.kept ≤ log.new.kept }
     ensures err { OnErr result ((peer.new ≡ peer.old) × (line.new ≡ line.old) × (log.new.events ≡ log.old.events)) }
 {
@@ -95,15 +101,15 @@ fn answered(
         return Err(AllocError);
     };
     line.answers.reserve(1)?;
-    let bytes = handle(at, message, peer, log)?;
+    let reply = handle(at, message, peer, log)?;
     let due = peer.due(at.turn);
     line.answers.push_reserved(Answer {
         due,
-        bytes: Tail::from_bytes(bytes),
+        bytes: Tail::from_bytes(reply.bytes),
     });
     line.rest.skip(message.length as usize);
     line.count = count;
-    Ok(())
+    Ok(reply.kept)
 }
 
 /// The member handles it, its answer is lost, and the line ends.
@@ -113,21 +119,22 @@ fn muted(
     peer: &mut Peer,
     line: &mut Line,
     log: &mut EventLog,
-) -> Result<(), Memory>
+) -> Result<usize, Memory>
     ensures peer { OnOk result (peer.new ≡ record peer.old { member = with_answer peer.old.member message.now.body at.stream at.nth at.lead; rules = drop 1 peer.old.rules }) }
     ensures line { OnOk result (line.new ≡ record (end_line at.turn line.old) { count = line.old.count + 1 }) }
     ensures events { OnOk result (log.new.events ≡ log.old.events ++ event.Handled at.member at.stream at.nth (effect_of peer.old.member message.now.body at.stream at.nth) ∷ []) }
+    ensures kept { IfOk result (λ kept. IsShared kept peer.old.member.log peer.new.member.log) }
     ensures room { log.old.kept ≤ log.new.kept }
     ensures err { OnErr result ((peer.new ≡ peer.old) × (line.new ≡ line.old) × (log.new.events ≡ log.old.events)) }
 {
     let Some(count) = line.count.checked_add(1) else {
         return Err(AllocError);
     };
-    handle(at, message, peer, log)?;
+    let lost = handle(at, message, peer, log)?;
     peer.follow_rule();
     line.end(at.turn);
     line.count = count;
-    Ok(())
+    Ok(lost.kept)
 }
 
 /// It is refused by these bytes.
@@ -166,32 +173,34 @@ fn refuse(
     Ok(())
 }
 
-/// A line's late request is handled if its turn has come. Its answer is lost.
+/// A line's late request is handled if its turn has come. Its answer is lost. It answers how many entries at the front of the member's
+/// log stayed as they were.
 pub fn handle_late(
     at: Place,
     peer: &mut Peer,
     line: &mut Line,
     log: &mut EventLog,
-) -> Result<(), Memory>
+) -> Result<usize, Memory>
     ensures peer { OnOk result (peer.new ≡ (late_scene line.old.late at (scene peer.old line.old log.old.events)).peer) }
     ensures line { OnOk result (line.new ≡ (late_scene line.old.late at (scene peer.old line.old log.old.events)).line) }
     ensures events { OnOk result (log.new.events ≡ (late_scene line.old.late at (scene peer.old line.old log.old.events)).events) }
+    ensures kept { IfOk result (λ kept. IsShared kept peer.old.member.log peer.new.member.log) }
     ensures room { log.old.kept ≤ log.new.kept }
     ensures err { OnErr result ((peer.new ≡ peer.old) × (line.new ≡ line.old) × (log.new.events ≡ log.old.events)) }
 {
     let Some(late) = &line.late else {
-        return Ok(());
+        return Ok(peer.logged());
     };
     if late.due > at.turn {
-        return Ok(());
+        return Ok(peer.logged());
     }
     let Some(count) = line.count.checked_add(1) else {
         return Err(AllocError);
     };
-    handle(at, &late.message, peer, log)?;
+    let lost = handle(at, &late.message, peer, log)?;
     line.late = None;
     line.count = count;
-    Ok(())
+    Ok(lost.kept)
 }
 
 /// The member handles it, and the history tells it.
@@ -200,11 +209,12 @@ fn handle(
     message: &Message,
     peer: &mut Peer,
     log: &mut EventLog,
-) -> Result<Bytes, Memory>
-    ensures bytes { IfOk result (λ b. b ≡ answer_bytes peer.old.member message.now (id_of_answer at.nth) at.stream at.nth at.lead) }
-    ensures framed { IfOk result (λ b. Framed b (message_of (id_of_answer at.nth) message.now.id 0 (reply_of peer.old.member message.now.body at.stream at.nth at.lead))) }
+) -> Result<Answered, Memory>
+    ensures bytes { IfOk result (λ a. a.bytes ≡ answer_bytes peer.old.member message.now (id_of_answer at.nth) at.stream at.nth at.lead) }
+    ensures framed { IfOk result (λ a. Framed a.bytes (message_of (id_of_answer at.nth) message.now.id 0 (reply_of peer.old.member message.now.body at.stream at.nth at.lead))) }
     ensures peer { OnOk result (peer.new ≡ record peer.old { member = with_answer peer.old.member message.now.body at.stream at.nth at.lead }) }
     ensures events { OnOk result (log.new.events ≡ log.old.events ++ event.Handled at.member at.stream at.nth (effect_of peer.old.member message.now.body at.stream at.nth) ∷ []) }
+    ensures kept { IfOk result (λ a. IsShared a.kept peer.old.member.log peer.new.member.log) }
     ensures room { log.old.kept ≤ log.new.kept }
     ensures err { OnErr result ((peer.new ≡ peer.old) × (log.new.events ≡ log.old.events)) }
 {
@@ -218,7 +228,7 @@ fn handle(
         at.lead,
     )?;
     log.note_kept(handled(at, answered.effect));
-    Ok(answered.bytes)
+    Ok(answered)
 }
 
 /// What the history tells of it.

@@ -33,5 +33,5 @@ new-requires-clause-hosts c =
 pub invariant_of-result : goal.invariant_of-result
 invariant_of-result c =
     let none : fault_in c.args.hosts.now c.args.acts ≡ None = ap (fault_in c.args.hosts.now) (sym c.as_slice.ensures.value) ∙ sym c.fault_in.ensures ∙ no_fault c.fault_in.result c.in_default.not-Some in
-    let is : c.new.result ≡ hall_with c.in-Ok.peers.items c.args.acts = c.new.ensures in
+    let is : c.in-Ok-new.core ≡ hall_with c.in-Ok.peers.items c.args.acts = c.in-Ok-new.ensures in
     subst IsSound (sym (is ∙ ap (λ (l : List PeerState). hall_with l c.args.acts) c.in-Ok.ensures)) (sound_new c.args.set.now c.args.hosts.now c.args.acts (fault_none c.args.hosts.now c.args.acts none).0)

@@ -1,17 +1,36 @@
-use Rattle.std.proofs.Common.{◌≡◌, ◌+◌, ◌∷◌, ◌++◌, [], ◌∙◌, ap, arith, length, sym}
+use Rattle.std.proofs.Common.{◌≡◌, ◌<◌, ◌+◌, ◌∷◌, ◌++◌, [], ◌∙◌, ap, arith, length, refl, subst, sym}
 use Rattle.std.proofs.lemmas.List.{length-set, with_items_is}
 use Rattle.std.specs.Vec.{with_items}
 use Rattle.net_link.specs.Told.{Told}
 use Rattle.net_link.specs.declared.event.NetEvent.TheVariants as event
+use Rattle.member_hall.specs.Halls.{HallState}
 use Rattle.member_hall.specs.Inside.{hall_of}
+use Rattle.member_hall.proofs.Fits.{fit_peers}
 use Rattle.member_hall.proofs.Moves.{elected_is}
+use Rattle.member_hall.proofs.Sharing.{shares_elect}
 use Rattle.member_hall.proofs.hall_core.HallCore.elect.Goals as goal
+
+pub invariant_of-self-2 : goal.invariant_of-self-2
+invariant_of-self-2 c =
+    let h = hall_of c.self.inside in
+    let there : c.args.host < length h.peers = subst (λ (g : HallState). c.args.host < length g.peers) (sym c.self.view_is) c.requires in
+    let made = c.in_ok-found.ensures.ok in
+    let many : length c.elect_among.new.peers ≡ c.self.inside.peers.len =
+    ap length made ∙ length-set c.as_mut_slice.result.now c.args.host _ ∙ ap length c.as_mut_slice.ensures.value ∙ sym c.self.inside.peers.ok.0 in
+    let items = with_items_is c.self.inside.peers c.elect_among.new.peers many in
+    let kept = ap (λ (l : Told). l.kept) c.in_ok-keep.ensures.ok in record {
+      fit = fit_peers h (record h { peers = (with_items c.self.inside.peers c.elect_among.new.peers).items; last = c.args.host; elections = c.in-Some.elections; events = c.note_kept.new.self.events }) c.self.inside.log.kept c.note_kept.new.self.kept c.self.invariant.fit
+          (omega (arith, ap length items, many, c.self.inside.peers.ok.0)) there refl refl refl (omega (arith, kept, c.note_kept.ensures.kept));
+      shares = shares_elect c.self.inside.shares c.elect.new.self h.peers c.as_mut_slice.result.now (with_items c.self.inside.peers c.elect_among.new.peers).items c.args.host h.last (c.from-number.result + 1) c.in_ok-found.found
+          c.as_mut_slice.ensures.value c.self.invariant.shares there c.self.invariant.fit.last (items ∙ made) c.in_ok-found.ensures.found c.elect.ensures;
+      late = c.self.invariant.late;
+    }
 
 pub returns-clause-ok : goal.returns-clause-ok
 returns-clause-ok c =
     let h = hall_of c.self.inside in
     let more : c.in-Some.elections ≡ h.elections + 1 = omega arith in
-    let made = c.in_ok-elect_among.ensures.ok in
+    let made = c.in_ok-found.ensures.ok in
     let many : length c.elect_among.new.peers ≡ c.self.inside.peers.len =
     ap length made ∙ length-set c.as_mut_slice.result.now c.args.host _ ∙ ap length c.as_mut_slice.ensures.value ∙ sym c.self.inside.peers.ok.0 in
     rw (← c.self.view_is)

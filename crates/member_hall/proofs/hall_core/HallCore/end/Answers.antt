@@ -1,3 +1,4 @@
+use Rattle.member_hall.proofs.Lates.{late_same}
 use Rattle.std.proofs.Common.{◌≡◌, ◌<◌, ◌∙◌, ap, sym, subst, length, refl, arith, false}
 use Rattle.member_hall.specs.Halls.{HallState, line_at, with_line}
 use Rattle.member_hall.specs.Inside.{hall_of}
@@ -15,8 +16,13 @@ invariant_of-self c =
     let there : c.args.stream < length h.lines = subst (λ (g : HallState). c.args.stream < length g.lines) (sym c.self.view_is) c.requires.stream in
     let was = line_read h c.args.stream c.index_mut-line.result.now there c.index_mut-line.ensures.value in
     let ended : c.end.new.self ≡ end_line h.turn (line_at h.lines c.args.stream) = c.end.ensures ∙ ap (end_line h.turn) was in
-    fit_line h (with_line c.args.stream c.end.new.self h) c.self.inside.log.kept c.self.inside.log.kept c.args.stream c.end.new.self c.self.invariant there
-    (record { member = ap (λ (l : LineState). l.member) ended; live = ap (λ (l : LineState). l.live) ended }) refl refl refl refl refl (omega arith)
+    record {
+      fit =
+          fit_line h (with_line c.args.stream c.end.new.self h) c.self.inside.log.kept c.self.inside.log.kept c.args.stream c.end.new.self c.self.invariant.fit there
+          (record { member = ap (λ (l : LineState). l.member) ended; live = ap (λ (l : LineState). l.live) ended }) refl refl refl refl refl (omega arith);
+      shares = c.self.invariant.shares;
+      late = late_same c.self.inside.late.items h.lines c.args.stream c.end.new.self c.self.invariant.late there (ap (λ (l : LineState). l.late) ended);
+    }
 
 pub returns-clause-ended : goal.returns-clause-ended
 unfolding end_on

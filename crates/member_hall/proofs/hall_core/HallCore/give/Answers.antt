@@ -1,3 +1,4 @@
+use Rattle.member_hall.proofs.Lates.{late_same}
 use Rattle.std.proofs.Common.{◌≡◌, ◌<◌, ◌∙◌, ap, sym, subst, length, refl, arith}
 use Rattle.std.specs.List.{slice_set}
 use Rattle.net_link.specs.Told.{Told}
@@ -15,5 +16,10 @@ invariant_of-self-2 c =
     let was = line_read h c.args.stream c.index_mut-line.result.now there c.index_mut-line.ensures.value in
     let line : c.give.new.self ≡ give_line c.args.count (line_at h.lines c.args.stream) = c.give.ensures ∙ ap (give_line c.args.count) was in
     let kept = ap (λ (l : Told). l.kept) c.in_ok-note.ensures.ok in
-    fit_line h (record h { lines = slice_set h.lines c.args.stream c.give.new.self; events = c.note.new.self.events }) c.self.inside.log.kept c.note.new.self.kept c.args.stream c.give.new.self c.self.invariant there
-    (record { member = ap (λ (l : LineState). l.member) line; live = ap (λ (l : LineState). l.live) line }) refl refl refl refl refl (omega (arith, kept))
+    record {
+      fit =
+          fit_line h (record h { lines = slice_set h.lines c.args.stream c.give.new.self; events = c.note.new.self.events }) c.self.inside.log.kept c.note.new.self.kept c.args.stream c.give.new.self c.self.invariant.fit there
+          (record { member = ap (λ (l : LineState). l.member) line; live = ap (λ (l : LineState). l.live) line }) refl refl refl refl refl (omega (arith, kept));
+      shares = c.self.invariant.shares;
+      late = late_same c.self.inside.late.items h.lines c.args.stream c.give.new.self c.self.invariant.late there (ap (λ (l : LineState). l.late) line);
+    }

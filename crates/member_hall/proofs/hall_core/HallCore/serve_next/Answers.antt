@@ -36,7 +36,7 @@ request-requires c =
     let h = hall_of c.self.inside in
     let there : c.args.stream < length h.lines = subst (λ (g : HallState). c.args.stream < length g.lines) (sym c.self.view_is) c.requires in
     subst (λ (g : HallState). IsNext g c.args.stream c.in-Ok.message) c.self.view_is
-    (next_of h c.args.stream _ c.index-line.result.now c.as_slice.result.now c.in-Ok.message c.self.inside.log.kept c.self.invariant there c.line.view_is c.index-line.ensures c.if-line.false c.as_slice.ensures c.in-Ok.ensures.found)
+    (next_of h c.args.stream _ c.index-line.result.now c.as_slice.result.now c.in-Ok.message c.self.inside.log.kept c.self.invariant.fit there c.line.view_is c.index-line.ensures c.if-line.false c.as_slice.ensures c.in-Ok.ensures.found)
 
 pub judge-requires-clause-goes_on : goal.judge-requires-clause-goes_on
 judge-requires-clause-goes_on c =
@@ -60,7 +60,7 @@ returns-in_ok-request-in-Ok-clause-more c =
     let h = hall_of c.self.inside in
     let there : c.args.stream < length h.lines = subst (λ (g : HallState). c.args.stream < length g.lines) (sym c.self.view_is) c.requires in
     let next : IsNext c.args.self.now c.args.stream c.in-Ok.message = subst (λ (g : HallState). IsNext g c.args.stream c.in-Ok.message) c.self.view_is
-    (next_of h c.args.stream _ c.index-line.result.now c.as_slice.result.now c.in-Ok.message c.self.inside.log.kept c.self.invariant there c.line.view_is c.index-line.ensures c.if-line.false c.as_slice.ensures c.in-Ok.ensures.found) in
+    (next_of h c.args.stream _ c.index-line.result.now c.as_slice.result.now c.in-Ok.message c.self.inside.log.kept c.self.invariant.fit there c.line.view_is c.index-line.ensures c.if-line.false c.as_slice.ensures c.in-Ok.ensures.found) in
     ap (served c.args.stream) c.in_ok-request-in-Ok.ensures.ok ∙ serve-step c.args.self.now c.args.stream c.in-Ok.message next
 
 pub returns-in_ok-request-in-Ok-clause-less : goal.returns-in_ok-request-in-Ok-clause-less
@@ -68,5 +68,5 @@ returns-in_ok-request-in-Ok-clause-less c ok =
     let h = hall_of c.self.inside in
     let there : c.args.stream < length h.lines = subst (λ (g : HallState). c.args.stream < length g.lines) (sym c.self.view_is) c.requires in
     let next : IsNext c.args.self.now c.args.stream c.in-Ok.message = subst (λ (g : HallState). IsNext g c.args.stream c.in-Ok.message) c.self.view_is
-    (next_of h c.args.stream _ c.index-line.result.now c.as_slice.result.now c.in-Ok.message c.self.inside.log.kept c.self.invariant there c.line.view_is c.index-line.ensures c.if-line.false c.as_slice.ensures c.in-Ok.ensures.found) in
+    (next_of h c.args.stream _ c.index-line.result.now c.as_slice.result.now c.in-Ok.message c.self.inside.log.kept c.self.invariant.fit there c.line.view_is c.index-line.ensures c.if-line.false c.as_slice.ensures c.in-Ok.ensures.found) in
     subst (λ (g : HallState). rest_length g c.args.stream < rest_length c.args.self.now c.args.stream) (sym c.in_ok-request-in-Ok.ensures.ok) (serve-less c.args.self.now c.args.stream c.in-Ok.message next)

@@ -1,3 +1,4 @@
+use Rattle.member_hall.proofs.Lates.{late_same}
 use Rattle.std.proofs.Common.{◌<◌, ◌∙◌, ap, sym, subst, length, refl, arith}
 use Rattle.std.specs.List.{slice_set}
 use Rattle.net_link.specs.Told.{Told}
@@ -25,5 +26,10 @@ invariant_of-self-2 c =
       live = c.line.inside.live;
     } in
     let kept = ap (λ (l : Told). l.kept) c.in_ok-keep.ensures.ok in
-    fit_line h (record h { lines = slice_set h.lines c.args.stream line; events = c.note_kept.new.self.events }) c.self.inside.log.kept c.note_kept.new.self.kept c.args.stream line c.self.invariant there
-    (record { member = member; live = live }) refl refl refl refl refl (omega (arith, kept, c.note_kept.ensures.kept))
+    record {
+      fit =
+          fit_line h (record h { lines = slice_set h.lines c.args.stream line; events = c.note_kept.new.self.events }) c.self.inside.log.kept c.note_kept.new.self.kept c.args.stream line c.self.invariant.fit there
+          (record { member = member; live = live }) refl refl refl refl refl (omega (arith, kept, c.note_kept.ensures.kept));
+      shares = c.self.invariant.shares;
+      late = late_same c.self.inside.late.items h.lines c.args.stream line c.self.invariant.late there (ap (λ (l : LineState). l.late) was);
+    }

@@ -1,16 +1,18 @@
 -- An attempt ends behind its request, and a command is answered.
-use Rattle.std.proofs.Common.{◌≡◌, ℕ, List, true, Some, sym, ap, ◌∙◌, subst}
+use Rattle.std.proofs.Common.{◌≡◌, ℕ, List, true, Some, refl, sym, ap, ◌∙◌, subst}
 use Rattle.std.specs.Prelude.{slice_get, slice_set}
 use Rattle.write_retry.specs.Machine.{allows}
 use Rattle.write_retry.specs.declared.attempt_end.AttemptEnd.{AttemptEnd}
 use Rattle.write_retry.specs.declared.attempt_end.AttemptEnd.TheVariants as attempt
 use Rattle.write_retry.specs.declared.outcome.Outcome.{Outcome}
+use Rattle.desk_trail.specs.declared.entry.Entry.TheVariants as entry
 use Rattle.desk_trail.specs.Attempts.{IsAnswer, IsEnd, end_by, end_event, finished, with_event}
 use Rattle.desk_trail.specs.Clients.{Client}
 use Rattle.desk_trail.specs.Facts as fact
 use Rattle.desk_trail.specs.Legal.{InTime, MayEndAs, MayGoOn, Point, StandsAt, client_after}
 use Rattle.desk_trail.specs.Owed.{InTurn, IsHead}
 use Rattle.desk_trail.specs.States.{ClientState, CommandState}
+use Rattle.wired_trail.specs.Faults.{tells_fault}
 use Rattle.cmd_step.specs.Ends.{IsBehindRequest, with_it}
 use Rattle.cmd_step.specs.Free.{IsFree}
 use Rattle.cmd_step.proofs.ListLemmas.{changed-there, changed-twice}
@@ -41,6 +43,15 @@ StandsAt-ended client p moment op end c free there behind h awaited = record {
   rule = may_end client p moment op end c behind there h;
   command = (c, there, awaited);
 }
+
+-- only one that ends by a fault tells of one
+pub ended-by_fault : (op : ℕ) (end : AttemptEnd) → tells_fault (entry.Ended op end) ≡ true → end ≡ attempt.Fault
+ended-by_fault op (attempt.Replied reading) tells = absurd cc
+ended-by_fault op attempt.Cut tells = absurd cc
+ended-by_fault op attempt.Fault tells = refl
+ended-by_fault op attempt.TimedOut tells = absurd cc
+ended-by_fault op (attempt.Bad at) tells = absurd cc
+ended-by_fault op (attempt.Unsent u) tells = absurd cc
 
 pub behind-ended : (client : Client) (w : ClientState) (moment op : ℕ) (end : AttemptEnd) (c d : CommandState) → slice_get w.commands op ≡ Some c →
     d ≡ with_event (end_event end) (end_by end c) → client_after client moment w (fact.Ended op end) ≡ with_it w op d

@@ -9,6 +9,7 @@ ghost use Rattle.desk_trail.specs.Requests.{id_at};
 ghost use Rattle.desk_trail.specs.States.{ServerState, stream_of};
 ghost use Rattle.desk_wire.specs.State.{opened};
 ghost use Rattle.net_link.specs.Causes.{HasCause};
+ghost use Rattle.wired_trail.specs.Faults.{IsUntold};
 ghost use Rattle.wired_trail.specs.Hearing.{HasUntoldDial, told_of};
 ghost use Rattle.wired_trail.specs.Lines.{IsThere, KeepsOthers, line_at};
 ghost use Rattle.wired_trail.specs.declared.stream_use.StreamUse.TheVariants as for_use;
@@ -103,6 +104,7 @@ fn fail<N: Net>(
     requires answered { IsAnswered wired.old.trail.point.state dial.at (λ t. pool.Dialled t dial.conn) server.old running.old }
     requires streamless { stream_of server.old dial.conn ≡ None }
     requires untold { N.tells → HasUntoldDial (N.history wired.old.net) wired.old.trail }
+    requires counted { IsUntold (N.faults wired.old.net) wired.old.trail.steps }
     ensures failed { HasFailed dial.at dial.conn wired.old.trail wired.new.trail wired.old.lines wired.new.lines server.new running.new }
     ensures idle { server.new.pool.owed ≡ [] }
     ensures faults { N.faults wired.old.net ≤ N.faults wired.new.net }

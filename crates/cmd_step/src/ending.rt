@@ -5,6 +5,7 @@ ghost use Rattle.desk_trail.specs.Attempts.{IsAnswer, IsEnd, end_event};
 ghost use Rattle.desk_trail.specs.Facts as fact;
 ghost use Rattle.desk_trail.specs.Streams.{stream_at};
 ghost use Rattle.desk_trail.specs.Written.{an_entry};
+ghost use Rattle.wired_trail.specs.Faults.{IsUntold};
 ghost use Rattle.wired_trail.specs.Hearing.{TellsHeard};
 ghost use Rattle.legal_trail.specs.Recorded.{Adds};
 ghost use Rattle.write_retry.specs.declared.events.OpEvent.TheVariants as event;
@@ -29,7 +30,8 @@ pub struct AskedAt {
 }
 
 /// The attempt of a command ends behind its request: by its reply, or without one. What it owes is an event for the topology, where
-/// the end tells one, and then the check-in of its connection. Where the net tells, that was heard on the stream.
+/// the end tells one, and then the check-in of its connection. Where the net tells, that was heard on the stream. Where a failed call
+/// ended it, the net counted one more than the entries tell.
 pub fn end_attempt<N: Net>(
     wired: &mut WiredTrail<N>,
     at: AskedAt,
@@ -44,6 +46,7 @@ pub fn end_attempt<N: Net>(
     requires awaited { allows running.old.op.next (end_event end) ≡ true }
     requires on { stream_at wired.old.trail.point.state at.op ≡ Some at.stream }
     requires heard { N.tells → TellsHeard (N.history wired.old.net) wired.old.trail at.moment (fact.Ended at.op end) }
+    requires counted { end ≡ AttemptEnd.Fault → IsUntold (N.faults wired.old.net) wired.old.trail.steps }
     ensures adds { Adds an_entry wired.old.trail.lists at.moment (entry_of.Ended at.op end) (fact.Ended at.op end) wired.old.trail wired.new.trail }
     ensures same { wired.new ≡ record wired.old { trail = wired.new.trail } }
     ensures moved { wired.new.trail.point.state ≡ with_it wired.old.trail.point.state at.op running.new }

@@ -1,4 +1,5 @@
 mod CallLemmas
+pub mod FaultLemmas
 mod FitLemmas
 mod FreeLemmas
 pub mod HeardLemmas

@@ -1,5 +1,5 @@
 -- What a wired trail keeps of each stream, between its calls. Nothing of it is a promise of this crate's own.
-use Rattle.std.specs.Prelude.{◌≡◌, ◌≢◌, ◌≤◌, ℕ, ℤ, Bool, true, false, List, [], ◌++◌, Option, None, Some, All, if◌then◌else◌}
+use Rattle.std.specs.Prelude.{◌≡◌, ◌≢◌, ◌≤◌, ℕ, ℤ, Bool, true, List, [], ◌++◌, Option, None, Some, All}
 use Rattle.std.specs.BTreeMap.{is_at}
 use Rattle.std.specs.Map.{lookup}
 use Rattle.std.specs.Ordering.{nat_cmp}
@@ -18,6 +18,7 @@ use Rattle.desk_trail.specs.declared.request.Request.{Request}
 use Rattle.desk_trail.specs.Facts.{Fact}
 use Rattle.desk_trail.specs.Streams.{Account, no_account}
 use Rattle.legal_trail.specs.Recorded.{Recorded, told_in}
+use Rattle.wired_trail.specs.Faults.{IsCounted}
 use Rattle.wired_trail.specs.Hearing.{told_of}
 use Rattle.wired_trail.specs.Lines.{Lines, line_at}
 use Rattle.wired_trail.specs.Standing.{HasLines}
@@ -97,6 +98,7 @@ pub record IsTold (history : List NetEvent) (next : ℕ) (lines : Lines) (pendin
   pub times : All (λ (t : Timed Fact). IfTime history t.what) (told_in r)
 
 -- What stands between two calls.
-pub record IsKept (tells : Type 0) (live : ℕ → Type 0) (next : ℕ) (history : List NetEvent) (lines : Lines) (pendings : Pendings) (r : Recorded) : Type 0 where
+pub record IsKept (tells : Type 0) (live : ℕ → Type 0) (next faults : ℕ) (history : List NetEvent) (lines : Lines) (pendings : Pendings) (r : Recorded) : Type 0 where
   pub wires : HasLines live next lines r.point.state.streams
+  pub counted : IsCounted faults r.steps
   pub told : tells → IsTold history next lines pendings r

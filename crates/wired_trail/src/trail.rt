@@ -15,6 +15,7 @@ ghost use Rattle.desk_wire.specs.Push.{push_shuts};
 ghost use Rattle.legal_trail.specs.Recorded.{Adds};
 ghost use Rattle.net_link.specs.Prefix.{IsPrefixOf};
 ghost use Rattle.net_link.specs.Seen.{seen};
+ghost use Rattle.wired_trail.specs.Faults.{IsCounted, IsUntold, tells_fault};
 ghost use Rattle.wired_trail.specs.Hearing.{HasUntoldDial, Heard, IsPlain, OffersOf, SpeaksOf, TellsHeard, WasHeard, told_of};
 ghost use Rattle.wired_trail.specs.Inside.{KeepsPending, pending_at, stream_offered};
 ghost use Rattle.wired_trail.specs.Lines.{Begins, BeginsBy, IsIdle, IsThere, KeepsOthers, line_at, with_unsent};
@@ -61,7 +62,7 @@ impl<N: Net> Model for WiredTrail<N> {
 
     ghost view = { λ w. record { net = w.net; lines = w.lines; trail = w.trail } };
 
-    ghost invariant = { λ w. IsKept N.tells (N.is_open w.net) (N.next w.net) (N.history w.net) w.lines w.pendings w.trail };
+    ghost invariant = { λ w. IsKept N.tells (N.is_open w.net) (N.next w.net) (N.faults w.net) (N.history w.net) w.lines w.pendings w.trail };
 }
 
 impl<N: Net> WiredTrail<N> {
@@ -132,10 +133,12 @@ impl<N: Net> WiredTrail<N> {
         self.trail.requests()
     }
 
-    /// The entries. They are legal, lead to the point, and are what the net told, where that tells.
+    /// The entries. They are legal, lead to the point, and are what the net told, where that tells. They tell at most as many failed
+    /// calls as the net counted.
     pub fn steps(&self) -> &[Step]
         ensures value { result.now ≡ self.now.trail.steps }
         ensures wired { N.tells → IsWired self.now.trail.client (N.history self.now.net) (facts_of self.now.trail.lists self.now.trail.steps) }
+        ensures counted { IsCounted (N.faults self.now.net) self.now.trail.steps }
         ensures legal { IsLegal self.now.trail.client self.now.trail.lists self.now.trail.steps }
         ensures point { self.now.trail.point ≡ point_behind self.now.trail.client (facts_of self.now.trail.lists self.now.trail.steps) }
     {
@@ -190,7 +193,8 @@ impl<N: Net> WiredTrail<N> {
     }
 
     /// Appends an entry that tells what became of the last request on a stream, and may stand next; None where no stream was dialled.
-    /// Where the net tells, that was heard there by a turn, and nothing was told of it since.
+    /// Where the net tells, that was heard there by a turn, and nothing was told of it since. Where it tells a failed call, the net
+    /// counted one more than the entries tell.
     pub fn tell(&mut self, moment: u64, entry: Entry, stream: Option<u64>)
         requires room { IsAtLeast an_entry self.old.trail.room }
         requires stands { (told : Fact) × (fact_of self.old.trail.lists entry ≡ Some told)
@@ -199,6 +203,7 @@ impl<N: Net> WiredTrail<N> {
             → SpeaksOf self.old.trail.client self.old.trail.point.state moment stream told }
         requires heard { N.tells → (told : Fact) → fact_of self.old.trail.lists entry ≡ Some told
             → TellsHeard (N.history self.old.net) self.old.trail moment told }
+        requires counted { tells_fault entry ≡ true → IsUntold (N.faults self.old.net) self.old.trail.steps }
         ensures adds { (told : Fact) → fact_of self.old.trail.lists entry ≡ Some told
             → Adds an_entry self.old.trail.lists moment entry told self.old.trail self.new.trail }
         ensures same { self.new ≡ record self.old { trail = self.new.trail } }
@@ -208,13 +213,14 @@ impl<N: Net> WiredTrail<N> {
     }
 
     /// Appends an entry that tells of a dial without a stream, and may stand next. Where the net tells, it told of such a dial of which
-    /// no entry tells yet.
+    /// no entry tells yet. The net counted one failed call more than the entries tell.
     pub fn tell_undialled(&mut self, moment: u64, entry: Entry)
         requires room { IsAtLeast an_entry self.old.trail.room }
         requires stands { (told : Fact) × (fact_of self.old.trail.lists entry ≡ Some told)
             × StandsAt self.old.trail.client self.old.trail.point (record { at = moment; what = told }) }
         requires undialled { (told : Fact) → fact_of self.old.trail.lists entry ≡ Some told → says_no_dial told ≡ true }
         requires untold { N.tells → HasUntoldDial (N.history self.old.net) self.old.trail }
+        requires counted { tells_fault entry ≡ true → IsUntold (N.faults self.old.net) self.old.trail.steps }
         ensures adds { (told : Fact) → fact_of self.old.trail.lists entry ≡ Some told
             → Adds an_entry self.old.trail.lists moment entry told self.old.trail self.new.trail }
         ensures same { self.new ≡ record self.old { trail = self.new.trail } }
@@ -309,6 +315,7 @@ impl<N: Net> WiredTrail<N> {
         ensures free { N.tells → IfStream result (λ stream. (told_of self.old.trail stream).last ≡ None) }
         ensures untold { N.tells → result ≡ Dialed.Failed → HasUntoldDial (N.history self.new.net) self.new.trail }
         ensures cause { HasCause (N.faults self.old.net) (N.faults self.new.net) (result ≡ Dialed.Failed) }
+        ensures counted { result ≡ Dialed.Failed → IsUntold (N.faults self.new.net) self.new.trail.steps }
     {
         match self.net.dial(address) {
             Dialed::Stream(stream) => {
@@ -335,6 +342,7 @@ impl<N: Net> WiredTrail<N> {
             (N.history self.old.net) (N.history self.new.net)) }
         ensures others { KeepsOthers stream self.old.lines self.new.lines }
         ensures cause { HasCause (N.faults self.old.net) (N.faults self.new.net) (result ≡ Pulled.Fault) }
+        ensures counted { result ≡ Pulled.Fault → IsUntold (N.faults self.new.net) self.new.trail.steps }
         ensures waits { N.tells → result ≡ Pulled.NotYet → IfSome (line_at self.new.lines stream) (λ now.
             MustWait now.wire.unsent (N.is_full self.new.net stream) (N.inbox self.new.net stream) (N.has_ended self.new.net stream)) }
     {
@@ -362,6 +370,7 @@ impl<N: Net> WiredTrail<N> {
             (N.history self.old.net) (N.history self.new.net)) }
         ensures others { KeepsOthers stream self.old.lines self.new.lines }
         ensures cause { HasCause (N.faults self.old.net) (N.faults self.new.net) (result ≡ Pushed.Fault) }
+        ensures counted { result ≡ Pushed.Fault → IsUntold (N.faults self.new.net) self.new.trail.steps }
     {
         if !self.pendings.is_waiting(stream) {
             // (cannot be: a request was queued on it, and nothing was read there since)
@@ -399,7 +408,8 @@ impl<N: Net> WiredTrail<N> {
         net
     }
 
-    /// Closes all streams. It gives the net back, and the trail as it is: what the net told, where that tells.
+    /// Closes all streams. It gives the net back, and the trail as it is: what the net told, where that tells, with at most as many
+    /// failed calls as the net counted.
     pub fn finish(self) -> Finished<N>
         ensures wired { N.tells → IsWired self.trail.client (N.history result.net) (facts_of (lists_of result.parts.trail) result.parts.trail.steps) }
         ensures lists { lists_of result.parts.trail ≡ self.trail.lists }
@@ -409,6 +419,7 @@ impl<N: Net> WiredTrail<N> {
         ensures legal { IsLegal self.trail.client (lists_of result.parts.trail) result.parts.trail.steps }
         ensures point { self.trail.point ≡ point_behind self.trail.client (facts_of (lists_of result.parts.trail) result.parts.trail.steps) }
         ensures cause { N.faults self.net ≤ N.faults result.net }
+        ensures counted { IsCounted (N.faults result.net) result.parts.trail.steps }
     {
         let WiredTrail {
             trail,

@@ -94,3 +94,6 @@ lose-requires-clause-heard g c = λ tells.
     let dials = has-dialled r.point.state dial.at dial.conn u k c.dial.new.self h c.dial.ensures.dials (c.stands_once.ensures.once dial.at.host u places.server dial.conn) in
     unheard (g.N.Net.history c.tell_undialled.new.self.net) mid dial.at.moment dial.at.op dial.at.host
     (stream-dialled mid.point.state dial.at dial.conn u c.dial.new.self (subst (AreAt mid.point.state dial.at u) (sym c.dial.ensures.dials) places) dials ∙ c.requires.streamless)
+
+pub tell_undialled-requires-clause-counted : goal.tell_undialled-requires-clause-counted
+tell_undialled-requires-clause-counted g c = λ tells. c.requires.counted

@@ -1,7 +1,7 @@
 use Rattle.std.proofs.Common.{◌≡◌, Some, refl, ap, ◌∙◌, subst}
 use Rattle.desk_trail.specs.Facts as fact
 use Rattle.desk_trail.specs.Legal.{Point}
-use Rattle.cmd_step.proofs.EndLemmas.{StandsAt-ended, behind-ended}
+use Rattle.cmd_step.proofs.EndLemmas.{StandsAt-ended, behind-ended, ended-by_fault}
 use Rattle.cmd_step.proofs.ending.end_attempt.Goals as goal
 use Rattle.wired_trail.specs.Hearing.{SpeaksOf, TellsHeard}
 use Rattle.cmd_step.proofs.HeardLemmas.{ended-speaks}
@@ -35,3 +35,6 @@ pub tell-requires-clause-heard : goal.tell-requires-clause-heard
 tell-requires-clause-heard g c = λ tells told is.
     let same : fact.Ended c.args.at.op c.args.end ≡ told = cc in
     subst (TellsHeard (g.N.Net.history c.args.wired.now.net) c.args.wired.now.trail c.args.at.moment) same (c.requires.heard tells)
+
+pub tell-requires-clause-counted : goal.tell-requires-clause-counted
+tell-requires-clause-counted g c = λ tells. c.requires.counted (ended-by_fault c.args.at.op c.args.end tells)

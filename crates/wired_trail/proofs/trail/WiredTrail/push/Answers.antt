@@ -4,6 +4,7 @@ use Rattle.wired_trail.specs.Hearing.{told_of}
 use Rattle.wired_trail.specs.Inside.{pending_at}
 use Rattle.wired_trail.specs.Lines.{line_at}
 use Rattle.wired_trail.proofs.CallLemmas.{IsKept-used, IsPushed, both-so, only-closed, others-trans, pushed-at, pushed-wired}
+use Rattle.wired_trail.proofs.FaultLemmas.{untold-later, untold-rose}
 use Rattle.wired_trail.proofs.FitLemmas.{at-gone}
 use Rattle.wired_trail.proofs.LineLemmas.{HasLines-gone, HasLines-pushed}
 use Rattle.wired_trail.proofs.TurnLemmas.{TwoLines, idle-sends, push-only, two-lines}
@@ -28,8 +29,9 @@ invariant_of-self g c =
     two-lines (line_at c.self.inside.lines s) (line_at c.push-answer.new.self s) (IsPushed g.N.Net.tells s answer h mid) there.line there.there c.push-answer.ensures.still
     (both-so g.N.Net.tells s answer h mid (line_at c.self.inside.lines s) (line_at c.push-answer.new.self s) c.push-answer.ensures.same c.push-answer.ensures.sends) in
     let waits = c.is_waiting.ensures.yes c.if-not-is_waiting.false in
-    IsKept-used g.N.Net.tells (g.N.Net.is_open c.self.inside.net) (g.N.Net.is_open c.close.new.self) (g.N.Net.next c.self.inside.net) (g.N.Net.next c.close.new.self) h later
+    IsKept-used g.N.Net.tells (g.N.Net.is_open c.self.inside.net) (g.N.Net.is_open c.close.new.self) (g.N.Net.next c.self.inside.net) (g.N.Net.next c.close.new.self) (g.N.Net.faults c.self.inside.net) (g.N.Net.faults c.close.new.self) h later
     c.self.inside.lines c.take_out.new.self c.self.inside.pendings c.remove.new.self c.self.inside.trail s (omega (arith, c.push-answer.ensures.keeps.numbers, c.close.ensures.keeps.numbers))
+    (omega (arith, c.push-answer.ensures.cause.later, c.close.ensures.cause))
     (HasLines-gone (g.N.Net.is_open c.self.inside.net) (g.N.Net.is_open c.close.new.self) (g.N.Net.next c.self.inside.net) (g.N.Net.next c.close.new.self) s c.self.inside.lines
     c.take_out.new.self _ c.self.invariant.wires (omega (arith, c.push-answer.ensures.keeps.numbers, c.close.ensures.keeps.numbers))
     (others-trans s c.self.inside.lines c.push-answer.new.self c.take_out.new.self c.push-answer.ensures.others c.take_out.ensures.others) c.take_out.ensures.gone
@@ -54,8 +56,8 @@ invariant_of-self-else-is_fault g c =
     two-lines (line_at c.self.inside.lines s) (line_at c.push-answer.new.self s) (IsPushed g.N.Net.tells s answer h mid) there.line there.there c.push-answer.ensures.still
     (both-so g.N.Net.tells s answer h mid (line_at c.self.inside.lines s) (line_at c.push-answer.new.self s) c.push-answer.ensures.same c.push-answer.ensures.sends) in
     let waits = c.is_waiting.ensures.yes c.if-not-is_waiting.false in
-    IsKept-used g.N.Net.tells (g.N.Net.is_open c.self.inside.net) (g.N.Net.is_open c.push-answer.new.net) (g.N.Net.next c.self.inside.net) (g.N.Net.next c.push-answer.new.net) h mid
-    c.self.inside.lines c.push-answer.new.self c.self.inside.pendings c.self.inside.pendings c.self.inside.trail s c.push-answer.ensures.keeps.numbers
+    IsKept-used g.N.Net.tells (g.N.Net.is_open c.self.inside.net) (g.N.Net.is_open c.push-answer.new.net) (g.N.Net.next c.self.inside.net) (g.N.Net.next c.push-answer.new.net) (g.N.Net.faults c.self.inside.net) (g.N.Net.faults c.push-answer.new.net) h mid
+    c.self.inside.lines c.push-answer.new.self c.self.inside.pendings c.self.inside.pendings c.self.inside.trail s c.push-answer.ensures.keeps.numbers c.push-answer.ensures.cause.later
     (HasLines-pushed (g.N.Net.is_open c.self.inside.net) (g.N.Net.is_open c.push-answer.new.net) (g.N.Net.next c.self.inside.net) (g.N.Net.next c.push-answer.new.net)
     s answer c.self.inside.lines c.push-answer.new.self c.self.inside.trail.point.state.streams c.self.invariant.wires
     c.push-answer.ensures.keeps.numbers c.push-answer.ensures.others c.push-answer.ensures.keeps.opens there
@@ -65,3 +67,14 @@ invariant_of-self-else-is_fault g c =
     pushed-at g.N.Net.tells s waits.0 answer h mid (line_at c.self.inside.lines s) (line_at c.push-answer.new.self s) (pending_at c.self.inside.pendings s) (told_of c.self.inside.trail s) there.line t
     there.there two waits.1 ((c.self.invariant.told t).streams s))
     c.self.invariant
+
+pub returns-then-is_fault-clause-counted : goal.returns-then-is_fault-clause-counted
+returns-then-is_fault-clause-counted g c = λ failed.
+    let steps = c.self.inside.trail.steps in
+    let before = g.N.Net.faults c.self.inside.net in
+    let between = g.N.Net.faults c.push-answer.new.net in
+    untold-later between (g.N.Net.faults c.close.new.self) steps c.close.ensures.cause (untold-rose before between steps (c.push-answer.ensures.cause.rose failed) c.self.invariant.counted)
+
+pub returns-else-is_fault-clause-counted : goal.returns-else-is_fault-clause-counted
+returns-else-is_fault-clause-counted g c = λ failed.
+    untold-rose (g.N.Net.faults c.self.inside.net) (g.N.Net.faults c.push-answer.new.net) c.self.inside.trail.steps (c.push-answer.ensures.cause.rose failed) c.self.invariant.counted

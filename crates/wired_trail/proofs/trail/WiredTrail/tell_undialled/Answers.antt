@@ -8,9 +8,10 @@ pub invariant_of-self : goal.invariant_of-self
 invariant_of-self g c =
     let stands = rw (← c.self.view_is) at c.requires.stands in
     let is = rw (← c.self.view_is) at c.requires.undialled in
+    let counted = rw (← c.self.view_is) at c.requires.counted in
     let untold = rw (← c.self.view_is) at c.requires.untold in
-    IsKept-undialled g.N.Net.tells (g.N.Net.is_open c.self.inside.net) (g.N.Net.next c.self.inside.net) (g.N.Net.history c.self.inside.net) c.self.inside.lines c.self.inside.pendings _ _ _ _ stands.0 c.self.inside.trail c.append.new.self
-    (g.met.N.Net.below c.self.inside.net) (c.append.ensures.adds stands.0 stands.1) (is stands.0 stands.1) untold c.self.invariant
+    IsKept-undialled g.N.Net.tells (g.N.Net.is_open c.self.inside.net) (g.N.Net.next c.self.inside.net) (g.N.Net.faults c.self.inside.net) (g.N.Net.history c.self.inside.net) c.self.inside.lines c.self.inside.pendings _ _ _ _ stands.0 c.self.inside.trail c.append.new.self
+    (g.met.N.Net.below c.self.inside.net) (c.append.ensures.adds stands.0 stands.1) counted (is stands.0 stands.1) untold c.self.invariant
 
 pub returns-clause-silent : goal.returns-clause-silent
 returns-clause-silent g c =

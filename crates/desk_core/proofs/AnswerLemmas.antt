@@ -18,6 +18,7 @@ use Rattle.desk_trail.specs.Attempts.{end_owes, endpoint_at, not_lent_offers}
 use Rattle.desk_trail.specs.Checks.{AtServer}
 use Rattle.desk_trail.specs.Clients.{Client}
 use Rattle.desk_trail.specs.Facts as fact
+use Rattle.desk_trail.specs.Facts.{Fact}
 use Rattle.desk_trail.specs.Holds.{WaitsAt}
 use Rattle.desk_trail.specs.Legal.{Point}
 use Rattle.desk_trail.specs.Owed.{Owed, left_owed}
@@ -38,47 +39,47 @@ use Rattle.cmd_step.specs.declared.got.Answer.{Answer}
 use Rattle.cmd_step.specs.declared.got.Answer.TheVariants as answer
 use Rattle.cmd_step.specs.declared.losing.Loss.{Loss}
 use Rattle.cmd_step.specs.declared.place.At.{At}
-use Rattle.desk_core.specs.Appends.{Appends, AppendsAside}
+use Rattle.desk_core.specs.Appends.{AppendsAside, AppendsOf, IsOfOp}
 use Rattle.desk_core.specs.CheckLines.{KeepsCheckLines}
 use Rattle.desk_core.specs.CheckOuts.{IsBehindAnswer, IsBroken, IsOfLine, IsPlain, IsToWait, KeepsAddress}
 use Rattle.desk_core.specs.State.{Core}
 use Rattle.desk_core.specs.Steps.{IsWaiting, in_line}
-use Rattle.desk_core.proofs.AppendsLemmas.{grown-trans, grown-weaken}
+use Rattle.desk_core.proofs.AppendsLemmas.{Plain-aside, grown-plain, grown-trans, grown-weaken}
 use Rattle.desk_core.proofs.BesideLemmas.{KeepsCheckLines-free, KeepsCheckLines-same}
 use Rattle.desk_core.proofs.ComesLemmas.{Comes, Comes-dialled, Comes-greeting, Comes-lent, Comes-none, Comes-not_lent, Comes-shut, Comes-time, Comes-trans, Comes-unsent, IsMoved, IsMoved-both, IsMoved-none}
 use Rattle.desk_core.proofs.ServerLemmas.{slice_get-set_same}
 
 -- ---- How many entries come
 
-pub record Came (failed : Type 0) (most moment : ℕ) (old new : Recorded) : Type 0 where
+pub record Came (failed : Type 0) (says : Fact → Type 0) (most moment : ℕ) (old new : Recorded) : Type 0 where
   pub n : ℕ
   pub few : n ≤ most
-  pub comes : Comes failed n moment old new
+  pub comes : Comes failed says n moment old new
 
-pub came : {R : Type 0} (n most moment : ℕ) (old new : Recorded) → n ≤ most → Comes R n moment old new → Came R most moment old new
-came {R} n most moment old new few h = record { n = n; few = few; comes = h }
+pub came : {R : Type 0} {P : Fact → Type 0} (n most moment : ℕ) (old new : Recorded) → n ≤ most → Comes R P n moment old new → Came R P most moment old new
+came {R} {P} n most moment old new few h = record { n = n; few = few; comes = h }
 
-pub Came-trans : {R : Type 0} (j k moment : ℕ) (old between new : Recorded) → Came R j moment old between → Came R k moment between new → Came R (j + k) moment old new
-Came-trans {R} j k moment old between new a b = record {
+pub Came-trans : {R : Type 0} {P : Fact → Type 0} (j k moment : ℕ) (old between new : Recorded) → Came R P j moment old between → Came R P k moment between new → Came R P (j + k) moment old new
+Came-trans {R} {P} j k moment old between new a b = record {
   n = a.n + b.n;
   few = let x = a.few in let y = b.few in omega arith;
   comes = Comes-trans a.n b.n moment old between new a.comes b.comes;
 }
 
-pub Came-news : {R : Type 0} (moment : ℕ) (news : Option ℕ) (old new : Recorded) → TellsTime moment news old new → Came R 1 moment old new
-Came-news {R} moment None old new told = came 0 1 moment old new (omega arith) (Comes-none moment old new told)
-Came-news {R} moment (Some stamp) old new told = came 1 1 moment old new (omega arith) (Comes-time moment stamp old new told)
+pub Came-news : {R : Type 0} {op : ℕ} (moment : ℕ) (news : Option ℕ) (old new : Recorded) → TellsTime moment news old new → Came R (IsOfOp op) 1 moment old new
+Came-news {R} {op} moment None old new told = came 0 1 moment old new (omega arith) (Comes-none moment old new told)
+Came-news {R} {op} moment (Some stamp) old new told = came 1 1 moment old new (omega arith) (Comes-time moment stamp old new told)
 
-pub Came-lost : {R : Type 0} (at : At) (loss : Loss) (old new : Recorded) (t : ServerState) (d : CommandState) → IsLost at loss old new t d → Came R 4 at.moment old new
+pub Came-lost : {R : Type 0} (at : At) (loss : Loss) (old new : Recorded) (t : ServerState) (d : CommandState) → IsLost at loss old new t d → Came R (IsOfOp at.op) 4 at.moment old new
 Came-lost {R} at loss old new t d h =
     let m = at.moment in
-    let told : Came R 1 m old h.mid = came 1 1 m old h.mid (omega arith) (Comes-not_lent m at.op at.host loss.why old h.mid h.told) in
-    let ends : Came R 1 m h.heard h.ended = came 1 1 m h.heard h.ended (omega arith) (Comes-unsent m at.op loss.why h.heard h.ended h.ends) in
-    let shuts : Came R 1 m h.ended new = came 1 1 m h.ended new (omega arith) (Comes-shut m at.host loss.conn _ h.ended new h.shuts) in
+    let told : Came R (IsOfOp at.op) 1 m old h.mid = came 1 1 m old h.mid (omega arith) (Comes-not_lent m at.op at.host loss.why old h.mid h.told) in
+    let ends : Came R (IsOfOp at.op) 1 m h.heard h.ended = came 1 1 m h.heard h.ended (omega arith) (Comes-unsent m at.op loss.why h.heard h.ended h.ends) in
+    let shuts : Came R (IsOfOp at.op) 1 m h.ended new = came 1 1 m h.ended new (omega arith) (Comes-shut m at.host loss.conn _ h.ended new (Plain-aside at.op _ (λ o. refl)) h.shuts) in
     Came-trans 3 1 m old h.ended new (Came-trans 2 1 m old h.heard h.ended (Came-trans 1 1 m old h.mid h.heard told (Came-news m loss.news h.mid h.heard h.news)) ends) shuts
 
 pub Came-answer : {R : Type 0} (at : At) (a : Answer) (old new : Recorded) (before after : WireLines) (s t : ServerState) (c d : CommandState) →
-    ((conn : ℕ) → a ≡ answer.Failed conn → R) → IsAnswer at a old new before after s t c d → Came R 5 at.moment old new
+    ((conn : ℕ) → a ≡ answer.Failed conn → R) → IsAnswer at a old new before after s t c d → Came R (IsOfOp at.op) 5 at.moment old new
 Came-answer {R} at (answer.Lent conn) old new before after s t c d f h =
     came 1 5 at.moment old new (omega arith) (Comes-lent at.moment at.op at.host conn old new h.0.adds)
 Came-answer {R} at (answer.Refused why) old new before after s t c d f h =
@@ -99,7 +100,7 @@ Came-answer {R} at answer.Wait old new before after s t c d f h =
 -- whatever it was told
 pub Appends-told : {R E : Type 0} (at : At) (r : Result Answer E) (old new : Recorded) (before after : WireLines) (s t : ServerState) (c d : CommandState) →
     ((conn : ℕ) → r ≡ Ok (answer.Failed conn) → R) → IfOk r (λ a. IsAnswer at a old new before after s t c d) → OnErr r ((new ≡ old) × AreSame before after) →
-    Appends R at.moment old new
+    AppendsOf R (IsOfOp at.op) at.moment old new
 Appends-told {R} {E} at (Ok a) old new before after s t c d f h e =
     (Came-answer {R = R} at a old new before after s t c d (λ conn is. f conn (ap (λ x. Ok x) is)) h).comes.appends
 Appends-told {R} {E} at (Err x) old new before after s t c d f h e = (Comes-none {R = R} at.moment old new e.0).appends
@@ -108,13 +109,17 @@ Appends-told {R} {E} at (Err x) old new before after s t c d f h e = (Comes-none
 pub Rose-wider : (a b c d : ℕ) → a ≤ b → c ≤ d → Rose b c → Rose a d
 Rose-wider a b c d before later rose = omega arith
 
-pub Appends-behind : (a b c moment : ℕ) (old mid new : Recorded) → a ≤ b → AppendsAside ⊥ moment old mid → Appends (Rose b c) moment mid new → Appends (Rose a c) moment old new
-Appends-behind a b c moment old mid new later x y =
-    grown-trans {R = Rose a c} moment old mid new (grown-weaken moment old mid (λ e. absurd e) x.appends) (grown-weaken moment mid new (λ (r : Rose b c). Rose-wider a b c c later (omega arith) r) y)
+pub Appends-behind : {op : ℕ} (a b c moment : ℕ) (old mid new : Recorded) → a ≤ b → AppendsAside ⊥ moment old mid → AppendsOf (Rose b c) (IsOfOp op) moment mid new →
+    AppendsOf (Rose a c) (IsOfOp op) moment old new
+Appends-behind {op} a b c moment old mid new later x y =
+    grown-trans {R = Rose a c} moment old mid new (grown-weaken moment old mid (λ e. absurd e) (grown-plain moment op old mid x))
+    (grown-weaken moment mid new (λ (r : Rose b c). Rose-wider a b c c later (omega arith) r) y)
 
-pub Appends-ahead : (a b c moment : ℕ) (old mid new : Recorded) → b ≤ c → Appends (Rose a b) moment old mid → AppendsAside ⊥ moment mid new → Appends (Rose a c) moment old new
-Appends-ahead a b c moment old mid new later x y =
-    grown-trans {R = Rose a c} moment old mid new (grown-weaken moment old mid (λ (r : Rose a b). Rose-wider a a b c (omega arith) later r) x) (grown-weaken moment mid new (λ e. absurd e) y.appends)
+pub Appends-ahead : {op : ℕ} (a b c moment : ℕ) (old mid new : Recorded) → b ≤ c → AppendsOf (Rose a b) (IsOfOp op) moment old mid → AppendsAside ⊥ moment mid new →
+    AppendsOf (Rose a c) (IsOfOp op) moment old new
+Appends-ahead {op} a b c moment old mid new later x y =
+    grown-trans {R = Rose a c} moment old mid new (grown-weaken moment old mid (λ (r : Rose a b). Rose-wider a a b c (omega arith) later r) x)
+    (grown-weaken moment mid new (λ e. absurd e) (grown-plain moment op mid new y))
 
 -- ---- The client behind them
 

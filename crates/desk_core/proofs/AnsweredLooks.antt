@@ -6,11 +6,12 @@ use Rattle.desk_trail.specs.declared.entry.LookedHow.{LookedHow}
 use Rattle.desk_trail.specs.declared.entry.LookedHow.TheVariants as looked
 use Rattle.desk_trail.specs.Checks.{due_from}
 use Rattle.desk_trail.specs.Clients.{Client}
+use Rattle.desk_trail.specs.Facts.{Fact}
 use Rattle.desk_trail.specs.Looks.{deadline, in_flight, is_at, look_owes}
 use Rattle.desk_trail.specs.States.{ClientState, CommandState, ServerState}
 use Rattle.legal_trail.specs.Recorded.{Recorded}
 use Rattle.cmd_step.specs.Looked.{servers_behind}
-use Rattle.desk_core.specs.Appends.{Appends, AppendsAside}
+use Rattle.desk_core.specs.Appends.{AppendsAside, AppendsOf}
 use Rattle.desk_core.specs.Commands.{IsAtWork, MovesOne}
 use Rattle.desk_core.specs.Kept.{IsReady, IsWriting}
 use Rattle.desk_core.specs.Looks.{StillSelects}
@@ -70,13 +71,13 @@ Rose-later a b c more r = omega arith
 pub Rose-earlier : (a b c : ℕ) → a ≤ b → Rose b c → Rose a c
 Rose-earlier a b c more r = omega arith
 
-pub grown-two : (moment f g h : ℕ) (old mid new : Recorded) → g ≤ h → Appends (Rose f g) moment old mid → Appends ⊥ moment mid new → Appends (Rose f h) moment old new
-grown-two moment f g h old mid new more a b =
+pub grown-two : {P : Fact → Type 0} (moment f g h : ℕ) (old mid new : Recorded) → g ≤ h → AppendsOf (Rose f g) P moment old mid → AppendsOf ⊥ P moment mid new → AppendsOf (Rose f h) P moment old new
+grown-two {P} moment f g h old mid new more a b =
     grown-trans moment old mid new (grown-weaken moment old mid (Rose-later f g h more) a) (grown-weaken moment mid new (λ e. absurd e) b)
 
-pub grown-three : (moment f g h k : ℕ) (old mid told new : Recorded) → f ≤ g → g ≤ h → h ≤ k → Appends (Rose f g) moment old mid → Appends ⊥ moment mid told →
-    Appends (Rose h k) moment told new → Appends (Rose f k) moment old new
-grown-three moment f g h k old mid told new fg gh hk a b c =
+pub grown-three : {P : Fact → Type 0} (moment f g h k : ℕ) (old mid told new : Recorded) → f ≤ g → g ≤ h → h ≤ k → AppendsOf (Rose f g) P moment old mid → AppendsOf ⊥ P moment mid told →
+    AppendsOf (Rose h k) P moment told new → AppendsOf (Rose f k) P moment old new
+grown-three {P} moment f g h k old mid told new fg gh hk a b c =
     grown-trans moment old told new
     (grown-weaken moment old told (Rose-later f h k hk) (grown-two moment f g h old mid told gh a b))
     (grown-weaken moment told new (Rose-earlier f h k (omega arith)) c)

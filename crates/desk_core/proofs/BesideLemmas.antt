@@ -32,13 +32,14 @@ use Rattle.desk_trail.specs.Pools.{OfHost, at_host, check_out_of, conn_streams_a
 use Rattle.desk_trail.specs.Requests.{farewell_by}
 use Rattle.desk_trail.specs.States.{CheckOut, ClientState, Dials, Has, Nothing, CommandState, ServerState, Waits, changed_at, with_server}
 use Rattle.legal_trail.specs.Recorded.{Adds, Recorded}
+use Rattle.wired_trail.specs.Faults.{tells_fault}
 use Rattle.wired_trail.specs.Lines.{KeepsOthers, Lines, line_at}
 use Rattle.wired_trail.specs.declared.lines.Line.{Line}
 use Rattle.wired_trail.specs.declared.stream_use.StreamUse.{StreamUse}
 use Rattle.wired_trail.specs.declared.stream_use.StreamUse.TheVariants as for_use
 use Rattle.cmd_step.specs.Closed.{ClosesOnly}
 use Rattle.cmd_step.specs.Sweeps.{IsOfConn}
-use Rattle.desk_core.specs.Appends.{Appends, AppendsAside, tells_fault}
+use Rattle.desk_core.specs.Appends.{AppendsAside, AppendsOf}
 use Rattle.desk_core.specs.CheckLines.{KeepsCheckLines}
 use Rattle.desk_core.specs.Commands.{MovesOne}
 use Rattle.desk_core.specs.Kept.{IsKept}
@@ -601,17 +602,19 @@ MovesOne-behind {R} op moment c old mid new a b = record {
 
 -- ---- Entries of commands, as what is appended
 
-pub grown-entry : {R : Type 0} (used : Room) (moment : ℕ) (e : Entry) (f : Fact) (old new : Recorded) → Adds used old.lists moment e f old new → (tells_fault e ≡ true → R) →
-    Appends R moment old new
-grown-entry {R} used moment e f old new a quiet = grown-adds used old.lists moment e f old new (AreGrown-longer old.lists old.lists (AreLonger-refl old.lists)) a quiet
+pub grown-entry : {R : Type 0} {P : Fact → Type 0} (used : Room) (moment : ℕ) (e : Entry) (f : Fact) (old new : Recorded) → Adds used old.lists moment e f old new → (tells_fault e ≡ true → R) →
+    P f → AppendsOf R P moment old new
+grown-entry {R} {P} used moment e f old new a quiet is = grown-adds used old.lists moment e f old new (AreGrown-longer old.lists old.lists (AreLonger-refl old.lists)) a quiet is
 
-pub grown-asked : {R : Type 0} (used : Room) (moment place : ℕ) (e : Entry) (r : Request) (old new : Recorded) →
-    Adds used (record old.lists { requests = old.lists.requests ++ r ∷ [] }) moment e (fact.Asked place r) old new → (tells_fault e ≡ true → R) → Appends R moment old new
-grown-asked {R} used moment place e r old new a quiet =
+pub grown-asked : {R : Type 0} {P : Fact → Type 0} (used : Room) (moment place : ℕ) (e : Entry) (r : Request) (old new : Recorded) →
+    Adds used (record old.lists { requests = old.lists.requests ++ r ∷ [] }) moment e (fact.Asked place r) old new → (tells_fault e ≡ true → R) → P (fact.Asked place r) →
+    AppendsOf R P moment old new
+grown-asked {R} {P} used moment place e r old new a quiet is =
     let lists : Lists = record old.lists { requests = old.lists.requests ++ r ∷ [] } in
-    grown-adds used lists moment e (fact.Asked place r) old new (AreGrown-longer old.lists lists (AreLonger-requests old.lists (r ∷ []))) a quiet
+    grown-adds used lists moment e (fact.Asked place r) old new (AreGrown-longer old.lists lists (AreLonger-requests old.lists (r ∷ []))) a quiet is
 
-pub grown-leased : {R : Type 0} (used : Room) (moment op place : ℕ) (lsid : Lsid) (fresh : Bool) (more : List Lsid) (e : Entry) (old new : Recorded) →
-    Adds used (record old.lists { sessions = old.lists.sessions ++ more }) moment e (fact.Leased op place lsid fresh) old new → (tells_fault e ≡ true → R) → Appends R moment old new
-grown-leased {R} used moment op place lsid fresh more e old new a quiet =
-    grown-adds used (record old.lists { sessions = old.lists.sessions ++ more }) moment e (fact.Leased op place lsid fresh) old new (AreGrown-session old.lists more) a quiet
+pub grown-leased : {R : Type 0} {P : Fact → Type 0} (used : Room) (moment op place : ℕ) (lsid : Lsid) (fresh : Bool) (more : List Lsid) (e : Entry) (old new : Recorded) →
+    Adds used (record old.lists { sessions = old.lists.sessions ++ more }) moment e (fact.Leased op place lsid fresh) old new → (tells_fault e ≡ true → R) →
+    P (fact.Leased op place lsid fresh) → AppendsOf R P moment old new
+grown-leased {R} {P} used moment op place lsid fresh more e old new a quiet is =
+    grown-adds used (record old.lists { sessions = old.lists.sessions ++ more }) moment e (fact.Leased op place lsid fresh) old new (AreGrown-session old.lists more) a quiet is

@@ -16,11 +16,13 @@ use Rattle.desk_trail.specs.declared.room.Room.{Room}
 use Rattle.desk_trail.specs.Clients.{Client}
 use Rattle.desk_trail.specs.Facts.{Fact, Lists}
 use Rattle.desk_trail.specs.Facts as fact
+use Rattle.desk_trail.specs.Orders.{asks_for}
 use Rattle.desk_trail.specs.Legal.{Point, client_after}
 use Rattle.desk_trail.specs.Pools.{waits_now}
 use Rattle.desk_trail.specs.States.{ClientState, CommandState, ServerState, changed, changed_at}
 use Rattle.desk_trail.specs.Written.{a_request, an_entry}
 use Rattle.legal_trail.specs.Recorded.{Adds, Recorded}
+use Rattle.wired_trail.specs.Faults.{tells_fault}
 use Rattle.wired_trail.specs.Lines.{Lines as WireLines}
 use Rattle.wired_trail.specs.Standing.{Standing}
 use Rattle.cmd_step.specs.Free.{IsFree}
@@ -28,14 +30,14 @@ use Rattle.cmd_step.specs.Places.{AreAt, with_both}
 use Rattle.cmd_step.specs.Sweeps as sweeping
 use Rattle.cmd_step.specs.Sweeps.{IsSweeping, Shuts, with_one}
 use Rattle.cmd_step.specs.declared.place.At.{At}
-use Rattle.desk_core.specs.Appends.{Appends, AppendsAside, tells_fault}
+use Rattle.desk_core.specs.Appends.{AppendsAside, AppendsOf, IsOfOp, NamesNone}
 use Rattle.desk_core.specs.CheckLines.{KeepsCheckLines}
 use Rattle.desk_core.specs.CheckOuts.{KeepsAddress}
 use Rattle.desk_core.specs.Commands.{IsAtWork, MovesOne}
 use Rattle.desk_core.specs.Kept.{IsKept, IsReady, LeadsTo}
 use Rattle.desk_core.specs.Servers.{closing_of, closings}
 use Rattle.desk_core.specs.State.{Core}
-use Rattle.desk_core.proofs.AppendsLemmas.{grown-same, grown-trans}
+use Rattle.desk_core.proofs.AppendsLemmas.{Plain-aside, Plain-own, grown-same, grown-trans}
 use Rattle.desk_core.proofs.BesideLemmas.{GoesBeside, GoesBeside-asked, GoesBeside-entry, GoesBeside-none, GoesBeside-trans, IsBeside, IsKept-beside, IsOfCommand, asks, grown-asked, grown-entry}
 use Rattle.desk_core.proofs.ClosingLemmas.{ClosesNoMore, fewer-dialled, fewer-ended, fewer-entered, fewer-greeting, fewer-lent, fewer-not_lent, fewer-same, fewer-settled, fewer-shut, fewer-time, fewer-trans}
 use Rattle.desk_core.proofs.ServerLemmas.{at_place, closings-set, elsewhere, slice_get-set, slice_get-set_same}
@@ -43,16 +45,16 @@ use Rattle.desk_core.proofs.ServerLemmas.{at_place, closings-set, elsewhere, sli
 -- ---- So many entries came
 
 -- by which closing the pools takes no more
-pub record Comes (failed : Type 0) (n moment : ℕ) (old new : Recorded) : Type 0 where
+pub record Comes (failed : Type 0) (says : Fact → Type 0) (n moment : ℕ) (old new : Recorded) : Type 0 where
   pub goes : GoesBeside n old new
   pub fewer : ClosesNoMore old new
-  pub appends : Appends failed moment old new
+  pub appends : AppendsOf failed says moment old new
   pub ids : new.lists.sessions ≡ old.lists.sessions
   pub space : old.room.steps ≤ new.room.steps + n
   pub at : old.point.moment ≤ moment → new.point.moment ≤ moment
 
-pub Comes-trans : {R : Type 0} (m n moment : ℕ) (old between new : Recorded) → Comes R m moment old between → Comes R n moment between new → Comes R (m + n) moment old new
-Comes-trans {R} m n moment old between new a b = record {
+pub Comes-trans : {R : Type 0} {P : Fact → Type 0} (m n moment : ℕ) (old between new : Recorded) → Comes R P m moment old between → Comes R P n moment between new → Comes R P (m + n) moment old new
+Comes-trans {R} {P} m n moment old between new a b = record {
   goes = GoesBeside-trans m n old between new a.goes b.goes;
   fewer = fewer-trans old between new a.fewer b.fewer;
   appends = grown-trans moment old between new a.appends b.appends;
@@ -61,8 +63,8 @@ Comes-trans {R} m n moment old between new a b = record {
   at = λ h. b.at (a.at h);
 }
 
-pub Comes-none : {R : Type 0} (moment : ℕ) (old new : Recorded) → new ≡ old → Comes R 0 moment old new
-Comes-none {R} moment old new e = record {
+pub Comes-none : {R : Type 0} {P : Fact → Type 0} (moment : ℕ) (old new : Recorded) → new ≡ old → Comes R P 0 moment old new
+Comes-none {R} {P} moment old new e = record {
   goes = GoesBeside-none old new old.room e;
   fewer = fewer-same old new (ap (λ (r : Recorded). r.point.state.servers) e);
   appends = grown-same moment old new (ap (λ (r : Recorded). r.client) e) (ap (λ (r : Recorded). r.lists) e) (ap (λ (r : Recorded). r.steps) e);
@@ -71,74 +73,75 @@ Comes-none {R} moment old new e = record {
   at = λ h. let k = ap (λ (r : Recorded). r.point.moment) e in omega arith;
 }
 
-pub Comes-entry : {R : Type 0} (moment : ℕ) (e : Entry) (f : Fact) (old new : Recorded) → IsBeside f → asks f ≡ 0 → ClosesNoMore old new → (tells_fault e ≡ true → R) →
-    Adds an_entry old.lists moment e f old new → Comes R 1 moment old new
-Comes-entry {R} moment e f old new own none fewer quiet a = record {
+pub Comes-entry : {R : Type 0} {P : Fact → Type 0} (moment : ℕ) (e : Entry) (f : Fact) (old new : Recorded) → IsBeside f → asks f ≡ 0 → ClosesNoMore old new →
+    (tells_fault e ≡ true → R) → P f → Adds an_entry old.lists moment e f old new → Comes R P 1 moment old new
+Comes-entry {R} {P} moment e f old new own none fewer quiet plain a = record {
   goes = GoesBeside-entry an_entry moment e f old new own none a;
   fewer = fewer;
-  appends = grown-entry an_entry moment e f old new a quiet;
+  appends = grown-entry an_entry moment e f old new a quiet plain;
   ids = ap (λ (l : Lists). l.sessions) a.lists_now;
   space = let k = a.room_used.steps in omega arith;
   at = λ h. let k = ap (λ (p : Point). p.moment) a.point_now in omega arith;
 }
 
 pub Comes-entered : {R : Type 0} (moment op host ticket : ℕ) (old new : Recorded) →
-    Adds an_entry old.lists moment (entry.Entered op host ticket) (fact.Entered op host ticket) old new → Comes R 1 moment old new
+    Adds an_entry old.lists moment (entry.Entered op host ticket) (fact.Entered op host ticket) old new → Comes R (IsOfOp op) 1 moment old new
 Comes-entered {R} moment op host ticket old new a =
     Comes-entry moment (entry.Entered op host ticket) (fact.Entered op host ticket) old new tt refl
-    (fewer-entered an_entry old.lists moment op host ticket (entry.Entered op host ticket) old new a) (λ e. absurd (cc)) a
+    (fewer-entered an_entry old.lists moment op host ticket (entry.Entered op host ticket) old new a) (λ e. absurd (cc)) (Plain-own op (fact.Entered op host ticket) (λ o e. e) (λ x y. tt) (λ own. tt)) a
 
 pub Comes-lent : {R : Type 0} (moment op host conn : ℕ) (old new : Recorded) → Adds an_entry old.lists moment (entry.Lent op host conn) (fact.Lent op host conn) old new →
-    Comes R 1 moment old new
+    Comes R (IsOfOp op) 1 moment old new
 Comes-lent {R} moment op host conn old new a =
     Comes-entry moment (entry.Lent op host conn) (fact.Lent op host conn) old new tt refl
-    (fewer-lent an_entry old.lists moment op host conn (entry.Lent op host conn) old new a) (λ e. absurd (cc)) a
+    (fewer-lent an_entry old.lists moment op host conn (entry.Lent op host conn) old new a) (λ e. absurd (cc)) (Plain-own op (fact.Lent op host conn) (λ o e. e) (λ x y. tt) (λ own. tt)) a
 
 pub Comes-dialled : {R : Type 0} (moment op host conn : ℕ) (stream : Option ℕ) (old new : Recorded) → (stream ≡ None → R) →
-    Adds an_entry old.lists moment (entry.Dialled op host conn stream) (fact.Dialled op host conn stream) old new → Comes R 1 moment old new
+    Adds an_entry old.lists moment (entry.Dialled op host conn stream) (fact.Dialled op host conn stream) old new → Comes R (IsOfOp op) 1 moment old new
 Comes-dialled {R} moment op host conn stream old new h a =
     Comes-entry moment (entry.Dialled op host conn stream) (fact.Dialled op host conn stream) old new tt refl
-    (fewer-dialled an_entry old.lists moment op host conn stream (entry.Dialled op host conn stream) old new a) (by stream h) a
+    (fewer-dialled an_entry old.lists moment op host conn stream (entry.Dialled op host conn stream) old new a) (by stream h) (Plain-own op (fact.Dialled op host conn stream) (λ o e. e) (λ x y. tt) (λ own. tt)) a
   where
     by : (o : Option ℕ) → (o ≡ None → R) → tells_fault (entry.Dialled op host conn o) ≡ true → R
     by None f e = f refl
     by (Some s) f e = absurd (cc)
 
 pub Comes-settled : {R : Type 0} (moment op host conn : ℕ) (stale : Bool) (old new : Recorded) →
-    Adds an_entry old.lists moment (entry.Settled op host conn stale) (fact.Settled op host conn stale) old new → Comes R 1 moment old new
+    Adds an_entry old.lists moment (entry.Settled op host conn stale) (fact.Settled op host conn stale) old new → Comes R (IsOfOp op) 1 moment old new
 Comes-settled {R} moment op host conn stale old new a =
     Comes-entry moment (entry.Settled op host conn stale) (fact.Settled op host conn stale) old new tt refl
-    (fewer-settled an_entry old.lists moment op host conn stale (entry.Settled op host conn stale) old new a) (λ e. absurd (cc)) a
+    (fewer-settled an_entry old.lists moment op host conn stale (entry.Settled op host conn stale) old new a) (λ e. absurd (cc)) (Plain-own op (fact.Settled op host conn stale) (λ o e. e) (λ x y. tt) (λ own. tt)) a
 
 pub Comes-not_lent : {R : Type 0} (moment op host : ℕ) (why : Unsent) (old new : Recorded) →
-    Adds an_entry old.lists moment (entry.NotLent op host why) (fact.NotLent op host why) old new → Comes R 1 moment old new
+    Adds an_entry old.lists moment (entry.NotLent op host why) (fact.NotLent op host why) old new → Comes R (IsOfOp op) 1 moment old new
 Comes-not_lent {R} moment op host why old new a =
     Comes-entry moment (entry.NotLent op host why) (fact.NotLent op host why) old new tt refl
-    (fewer-not_lent an_entry old.lists moment op host why (entry.NotLent op host why) old new a) (λ e. absurd (cc)) a
+    (fewer-not_lent an_entry old.lists moment op host why (entry.NotLent op host why) old new a) (λ e. absurd (cc)) (Plain-own op (fact.NotLent op host why) (λ o e. e) (λ x y. tt) (λ own. tt)) a
 
-pub Comes-shut : {R : Type 0} (moment host conn : ℕ) (reason : CloseReason) (old new : Recorded) →
-    Adds an_entry old.lists moment (entry.ConnShut host conn reason) (fact.ConnShut host conn reason) old new → Comes R 1 moment old new
-Comes-shut {R} moment host conn reason old new a =
+pub Comes-shut : {R : Type 0} {P : Fact → Type 0} (moment host conn : ℕ) (reason : CloseReason) (old new : Recorded) →
+    P (fact.ConnShut host conn reason) → Adds an_entry old.lists moment (entry.ConnShut host conn reason) (fact.ConnShut host conn reason) old new → Comes R P 1 moment old new
+Comes-shut {R} {P} moment host conn reason old new is a =
     Comes-entry moment (entry.ConnShut host conn reason) (fact.ConnShut host conn reason) old new tt refl
-    (fewer-shut an_entry old.lists moment host conn reason (entry.ConnShut host conn reason) old new a) (λ e. absurd (cc)) a
+    (fewer-shut an_entry old.lists moment host conn reason (entry.ConnShut host conn reason) old new a) (λ e. absurd (cc)) is a
 
 pub Comes-unsent : {R : Type 0} (moment op : ℕ) (why : Unsent) (old new : Recorded) →
-    Adds an_entry old.lists moment (entry.Ended op (attempt.Unsent why)) (fact.Ended op (attempt.Unsent why)) old new → Comes R 1 moment old new
+    Adds an_entry old.lists moment (entry.Ended op (attempt.Unsent why)) (fact.Ended op (attempt.Unsent why)) old new → Comes R (IsOfOp op) 1 moment old new
 Comes-unsent {R} moment op why old new a =
     Comes-entry moment (entry.Ended op (attempt.Unsent why)) (fact.Ended op (attempt.Unsent why)) old new tt refl
-    (fewer-ended an_entry old.lists moment op (attempt.Unsent why) (entry.Ended op (attempt.Unsent why)) old new a) (λ e. absurd (cc)) a
+    (fewer-ended an_entry old.lists moment op (attempt.Unsent why) (entry.Ended op (attempt.Unsent why)) old new a) (λ e. absurd (cc)) (Plain-own op (fact.Ended op (attempt.Unsent why)) (λ o e. e) (λ x y. tt) (λ own. tt)) a
 
-pub Comes-time : {R : Type 0} (moment stamp : ℕ) (old new : Recorded) → Adds an_entry old.lists moment (entry.Time stamp) (fact.Time stamp) old new → Comes R 1 moment old new
-Comes-time {R} moment stamp old new a =
-    Comes-entry moment (entry.Time stamp) (fact.Time stamp) old new tt refl (fewer-time an_entry old.lists moment stamp (entry.Time stamp) old new a) (λ e. absurd (cc)) a
+pub Comes-time : {R : Type 0} {op : ℕ} (moment stamp : ℕ) (old new : Recorded) → Adds an_entry old.lists moment (entry.Time stamp) (fact.Time stamp) old new → Comes R (IsOfOp op) 1 moment old new
+Comes-time {R} {op} moment stamp old new a =
+    Comes-entry moment (entry.Time stamp) (fact.Time stamp) old new tt refl (fewer-time an_entry old.lists moment stamp (entry.Time stamp) old new a) (λ e. absurd (cc)) (Plain-aside op (fact.Time stamp) (λ o. refl)) a
 
 -- a connection's greeting is queued
-pub Comes-greeting : {R : Type 0} (moment place host conn : ℕ) (r : Request) (old new : Recorded) → r.purpose ≡ purpose.Greeting host conn →
-    Adds a_request (record old.lists { requests = old.lists.requests ++ r ∷ [] }) moment (entry.Asked place) (fact.Asked place r) old new → Comes R 1 moment old new
-Comes-greeting {R} moment place host conn r old new for a = record {
+pub Comes-greeting : {R : Type 0} {op : ℕ} (moment place host conn : ℕ) (r : Request) (old new : Recorded) → r.purpose ≡ purpose.Greeting host conn →
+    Adds a_request (record old.lists { requests = old.lists.requests ++ r ∷ [] }) moment (entry.Asked place) (fact.Asked place r) old new → Comes R (IsOfOp op) 1 moment old new
+Comes-greeting {R} {op} moment place host conn r old new for a = record {
   goes = GoesBeside-asked a_request moment place (entry.Asked place) r old new (subst IsOfCommand (sym for) tt) a;
   fewer = fewer-greeting a_request (record old.lists { requests = old.lists.requests ++ r ∷ [] }) moment place host conn r (entry.Asked place) old new for a;
-  appends = grown-asked a_request moment place (entry.Asked place) r old new a (λ e. absurd (cc));
+  appends = grown-asked a_request moment place (entry.Asked place) r old new a (λ e. absurd (cc))
+      (Plain-aside op (fact.Asked place r) (λ o. ap (asks_for o) for));
   ids = ap (λ (l : Lists). l.sessions) a.lists_now;
   space = let k = a.room_used.steps in omega arith;
   at = λ h. let k = ap (λ (p : Point). p.moment) a.point_now in omega arith;
@@ -171,22 +174,22 @@ IsMoved-none old new at t d e places = record {
   sessions = ap (λ (r : Recorded). r.point.state.sessions) e;
 }
 
-pub MovesOne-moved : {R : Type 0} (n moment : ℕ) (old mid new : Recorded) (room : Room) (at : At) (t : ServerState) (d : CommandState) → mid ≡ record old { room = room } →
-    Comes R n moment mid new → IsMoved mid new at t d → MovesOne at.op d old new
-MovesOne-moved {R} n moment old mid new room at t d same h m = record {
+pub MovesOne-moved : {R : Type 0} {P : Fact → Type 0} (n moment : ℕ) (old mid new : Recorded) (room : Room) (at : At) (t : ServerState) (d : CommandState) → mid ≡ record old { room = room } →
+    Comes R P n moment mid new → IsMoved mid new at t d → MovesOne at.op d old new
+MovesOne-moved {R} {P} n moment old mid new room at t d same h m = record {
   commands = m.commands ∙ ap (λ (r : Recorded). slice_set r.point.state.commands at.op d) same;
   sessions = m.sessions ∙ ap (λ (r : Recorded). r.point.state.sessions) same;
   ids = h.ids ∙ ap (λ (r : Recorded). r.lists.sessions) same;
 }
 
-pub Appends-comes : {R : Type 0} (n moment : ℕ) (old mid new : Recorded) (room : Room) → mid ≡ record old { room = room } → Comes R n moment mid new → Appends R moment old new
-Appends-comes {R} n moment old mid new room same h =
+pub Appends-comes : {R : Type 0} {P : Fact → Type 0} (n moment : ℕ) (old mid new : Recorded) (room : Room) → mid ≡ record old { room = room } → Comes R P n moment mid new → AppendsOf R P moment old new
+Appends-comes {R} {P} n moment old mid new room same h =
     grown-trans moment old mid new
     (grown-same moment old mid (ap (λ (r : Recorded). r.client) same) (ap (λ (r : Recorded). r.lists) same) (ap (λ (r : Recorded). r.steps) same)) h.appends
 
-pub KeepsAddress-comes : {R : Type 0} (n moment host : ℕ) (old mid new : Recorded) (room : Room) (t : ServerState) → mid ≡ record old { room = room } → Comes R n moment mid new →
+pub KeepsAddress-comes : {R : Type 0} {P : Fact → Type 0} (n moment host : ℕ) (old mid new : Recorded) (room : Room) (t : ServerState) → mid ≡ record old { room = room } → Comes R P n moment mid new →
     new.point.state.servers ≡ slice_set mid.point.state.servers host t → KeepsAddress host old.point.state new.point.state
-KeepsAddress-comes {R} n moment host old mid new room t same h m = λ s there.
+KeepsAddress-comes {R} {P} n moment host old mid new room t same h m = λ s there.
     let was : slice_get mid.point.state.servers host ≡ Some s = ap (λ (r : Recorded). slice_get r.point.state.servers host) same ∙ there in
     let now : slice_get new.point.state.servers host ≡ Some t = ap (λ (ss : List ServerState). slice_get ss host) m ∙ slice_get-set_same mid.point.state.servers host t s was in
     let k = h.goes.servers host t now in
@@ -234,10 +237,10 @@ closing-within [] k s h = absurd (cc)
 closing-within (z ∷ zs) zero s h = let is : z ≡ s = (cc) in let e = ap closing_of is in omega arith
 closing-within (z ∷ zs) (suc k) s h = let i = closing-within zs k s h in omega arith
 
-pub closing-less : {R : Type 0} (n moment : ℕ) (old new : Recorded) (lines : WireLines) (topology : Topology) (ss : List ServerState) (time : Option ClusterTime) (last host : ℕ)
-    (s t : ServerState) → LeadsTo old lines topology ss time last → Comes R n moment old new → new.point.state.servers ≡ slice_set old.point.state.servers host t →
+pub closing-less : {R : Type 0} {P : Fact → Type 0} (n moment : ℕ) (old new : Recorded) (lines : WireLines) (topology : Topology) (ss : List ServerState) (time : Option ClusterTime) (last host : ℕ)
+    (s t : ServerState) → LeadsTo old lines topology ss time last → Comes R P n moment old new → new.point.state.servers ≡ slice_set old.point.state.servers host t →
     slice_get ss host ≡ Some s → closing_of t ≤ closing_of s
-closing-less {R} n moment old new lines topology ss time last host s t l h m there =
+closing-less {R} {P} n moment old new lines topology ss time last host s t l h m there =
     let was : old.point.state.servers ≡ ss = ap (λ (w : ClientState). w.servers) l.state in
     let now : new.point.state.servers ≡ slice_set ss host t = m ∙ ap (λ (zs : List ServerState). slice_set zs host t) was in
     let f : ClosesNoMore old new = h.fewer in
@@ -254,12 +257,12 @@ all-paid lines n ss host t paid idle = λ x s e. elim (slice_get-set ss host t x
 ]
 
 -- it keeps what it keeps
-pub IsKept-comes : {R : Type 0} (n moment : ℕ) (old new : Recorded) (before lines : WireLines) (topology : Topology) (ss : List ServerState) (time now : Option ClusterTime)
+pub IsKept-comes : {R : Type 0} {P : Fact → Type 0} (n moment : ℕ) (old new : Recorded) (before lines : WireLines) (topology : Topology) (ss : List ServerState) (time now : Option ClusterTime)
     (count counted last : ℕ) (stopped : Bool) (host : ℕ) (s t : ServerState) → IsKept old before topology ss time count last stopped → stopped ≡ false →
-    Comes R n moment old new → new.point.state.servers ≡ slice_set old.point.state.servers host t → slice_get ss host ≡ Some s → t.pool.owed ≡ [] →
+    Comes R P n moment old new → new.point.state.servers ≡ slice_set old.point.state.servers host t → slice_get ss host ≡ Some s → t.pool.owed ≡ [] →
     new.point.time ≡ option_map (λ (u : ClusterTime). u.stamp) now → last ≡ moment → count + n ≤ old.room.steps → KeepsCheckLines before lines →
     counted + closing_of s ≡ count + closing_of t → IsKept new lines topology (slice_set ss host t) now counted last stopped
-IsKept-comes {R} n moment old new before lines topology ss time now count counted last stopped host s t k runs h m there idle told is_now space keeps sum =
+IsKept-comes {R} {P} n moment old new before lines topology ss time now count counted last stopped host s t k runs h m there idle told is_now space keeps sum =
     let l = k.leads runs in
     let was : old.point.state.servers ≡ ss = ap (λ (w : ClientState). w.servers) l.state in
     let is : new.point.state.servers ≡ slice_set ss host t = m ∙ ap (λ (zs : List ServerState). slice_set zs host t) was in
@@ -295,7 +298,7 @@ IsKept-stopped trail lines topology ss time last none within = record {
 pub record HasShut (failed : Type 0) (moment : ℕ) (old new : Recorded) : Type 0 where
   pub n : ℕ
   pub used : old.room.steps ≡ new.room.steps + n
-  pub comes : Comes failed n moment old new
+  pub comes : Comes failed NamesNone n moment old new
   pub time : new.point.time ≡ old.point.time
 
 pub HasShut-all : {R : Type 0} (host moment : ℕ) (old new : Recorded) → Shuts host moment old new → HasShut R moment old new
@@ -305,7 +308,7 @@ HasShut-all {R} host moment old _ (sweeping.more conn reason mid new shuts adds)
     record {
       n = h.n + 1;
       used = let x = h.used in let y = adds.room_used.steps in omega arith;
-      comes = Comes-trans {R = R} h.n 1 moment old mid new h.comes (Comes-shut {R = R} moment host conn reason mid new adds);
+      comes = Comes-trans {R = R} h.n 1 moment old mid new h.comes (Comes-shut {R = R} moment host conn reason mid new (λ o. refl) adds);
       time = ap (λ (p : Point). p.time) adds.point_now ∙ h.time;
     }
 
@@ -314,7 +317,7 @@ pub shut-few : (moment host : ℕ) (old new : Recorded) (s t : ServerState) (n :
     n ≤ length s.pool.state.available
 shut-few moment host old new s t n used h = let r = h.room in omega arith
 
-pub Aside-swept : {R : Type 0} (n moment host : ℕ) (old mid new : Recorded) (room : Room) (t : ServerState) → mid ≡ record old { room = room } → Comes R n moment mid new →
+pub Aside-swept : {R : Type 0} (n moment host : ℕ) (old mid new : Recorded) (room : Room) (t : ServerState) → mid ≡ record old { room = room } → Comes R NamesNone n moment mid new →
     new.point.state ≡ with_one mid.point.state host t → AppendsAside R moment old new
 Aside-swept {R} n moment host old mid new room t same h moved = record {
   appends = Appends-comes n moment old mid new room same h;

@@ -65,8 +65,8 @@ IsDesk-aside {R} old new items counts s last now moment stopped after d runs a l
         ids = a.ids ∙ was.ids;
         late = let late = was.late in omega arith;
       };
-      levels = subst (λ (client : Client). (op : ℕ) → IsShallow client op) (sym a.appends.client) d.levels;
-      given = d.given ∙ ap (λ (client : Client). length client.commands) (sym a.appends.client);
+      levels = subst (λ (client : Client). (op : ℕ) → IsShallow client op) (sym a.appends.appends.client) d.levels;
+      given = d.given ∙ ap (λ (client : Client). length client.commands) (sym a.appends.appends.client);
       few = d.few;
     }
 

@@ -20,10 +20,11 @@ use Rattle.desk_trail.specs.Legal.{Point, StandsAt, is_reply_end}
 use Rattle.desk_trail.specs.States.{ClientState, ServerState}
 use Rattle.desk_trail.specs.Written.{an_entry}
 use Rattle.legal_trail.specs.Recorded.{Adds, Recorded}
+use Rattle.wired_trail.specs.Faults.{tells_fault}
 use Rattle.wired_trail.specs.Lines.{KeepsOthers, Lines, line_at}
 use Rattle.wired_trail.specs.declared.lines.Line.{Line}
 use Rattle.wired_trail.specs.declared.stream_use.StreamUse.TheVariants as for_use
-use Rattle.desk_core.specs.Appends.{AppendsAside, tells_fault}
+use Rattle.desk_core.specs.Appends.{AppendsAside}
 use Rattle.desk_core.specs.Driven.{IsKeptIdle, IsStillUsed}
 use Rattle.desk_core.specs.Ends.{IsEndBy, IsOfReply}
 use Rattle.desk_core.specs.Kept.{IsKept, LeadsTo}
@@ -176,15 +177,15 @@ EndsOn-by before lines host stream how.NoDial o line has there is_for idle = non
 pub not-undialled : (host : Address) (began limit moment : ℕ) (answer : Pulled) (offered : TopoEvent) (h : CheckHow) → IsEndBy host began limit moment answer offered h → h ≡ how.NoDial → ⊥
 not-undialled host began limit moment answer offered h by e = subst (λ g. IsEndBy host began limit moment answer offered g) e by
 
-Fault-by : (host : Address) (k began limit moment : ℕ) (answer : Pulled) (offered : TopoEvent) (h : CheckHow) → IsEndBy host began limit moment answer offered h →
-    tells_fault (entry.CheckEnded k h) ≡ true → h ≡ how.Fault
-Fault-by host k began limit moment answer offered (how.Reply sample) by e = absurd (cc)
-Fault-by host k began limit moment answer offered (how.Refused code) by e = absurd (cc)
-Fault-by host k began limit moment answer offered how.Cut by e = absurd (cc)
-Fault-by host k began limit moment answer offered how.Fault by e = refl
-Fault-by host k began limit moment answer offered how.Late by e = absurd (cc)
-Fault-by host k began limit moment answer offered (how.Bad at) by e = absurd (cc)
-Fault-by host k began limit moment answer offered how.NoDial by e = absurd by
+-- of the ends of a check that ran only one by a fault tells of one
+pub fault-ended : (k : ℕ) (h : CheckHow) → (h ≡ how.NoDial → ⊥) → tells_fault (entry.CheckEnded k h) ≡ true → h ≡ how.Fault
+fault-ended k (how.Reply sample) ran e = absurd (cc)
+fault-ended k (how.Refused code) ran e = absurd (cc)
+fault-ended k how.Cut ran e = absurd (cc)
+fault-ended k how.Fault ran e = refl
+fault-ended k how.Late ran e = absurd (cc)
+fault-ended k (how.Bad at) ran e = absurd (cc)
+fault-ended k how.NoDial ran e = absurd (ran refl)
 
 Rose-later : (a b c : ℕ) → Rose a b → b ≤ c → Rose a c
 Rose-later a b c rose later = omega arith
@@ -193,7 +194,7 @@ Rose-later a b c rose later = omega arith
 pub Rose-by : (host : Address) (k began limit moment a b c : ℕ) (answer : Pulled) (offered : TopoEvent) (h : CheckHow) → IsEndBy host began limit moment answer offered h →
     (h ≡ how.Fault → Rose a b) → b ≤ c → tells_fault (entry.CheckEnded k h) ≡ true → Rose a c
 Rose-by host k began limit moment a b c answer offered h by rose later e =
-    Rose-later a b c (rose (Fault-by host k began limit moment answer offered h by e)) later
+    Rose-later a b c (rose (fault-ended k h (not-undialled host began limit moment answer offered h by) e)) later
 
 pub IsReply-by : (h : CheckHow) (time : Option ClusterTime) → IsOfReply h time → time ≢ None → is_reply_end h ≡ true
 IsReply-by h None of n = absurd (n refl)

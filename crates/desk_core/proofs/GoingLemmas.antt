@@ -11,10 +11,11 @@ use Rattle.sess_book.specs.Sessions.{Sessions}
 use Rattle.desk_trail.specs.declared.entry.Entry.TheVariants as entry
 use Rattle.desk_trail.specs.declared.step.Step.{Step}
 use Rattle.desk_trail.specs.Clients.{Client}
+use Rattle.desk_trail.specs.Facts.{Fact}
 use Rattle.desk_trail.specs.States.{ClientState, CommandState}
 use Rattle.desk_trail.specs.Written.{step_of}
 use Rattle.legal_trail.specs.Recorded.{Recorded}
-use Rattle.desk_core.specs.Appends.{Appends}
+use Rattle.desk_core.specs.Appends.{Appends, AppendsOf}
 use Rattle.desk_core.specs.Commands.{HasGone, IsAtWork, IsInStep, MovesLease, MovesOne}
 use Rattle.desk_core.specs.Kept.{IsReady}
 use Rattle.desk_core.specs.Looks.{HasLooked, IsAnswerOf}
@@ -56,9 +57,9 @@ rose-later a b c more rose = omega arith
 rose-sooner : (a b c : ℕ) → a ≤ b → Rose b c → Rose a c
 rose-sooner a b c less rose = omega arith
 
-pub Appends-then : (a b c moment : ℕ) (old between new : Recorded) → a ≤ b → b ≤ c → Appends (Rose a b) moment old between → Appends (Rose b c) moment between new →
-    Appends (Rose a c) moment old new
-Appends-then a b c moment old between new first second x y =
+pub Appends-then : {P : Fact → Type 0} (a b c moment : ℕ) (old between new : Recorded) → a ≤ b → b ≤ c → AppendsOf (Rose a b) P moment old between →
+    AppendsOf (Rose b c) P moment between new → AppendsOf (Rose a c) P moment old new
+Appends-then {P} a b c moment old between new first second x y =
     grown-trans moment old between new (grown-weaken moment old between (rose-later a b c second) x) (grown-weaken moment between new (rose-sooner a b c first) y)
 
 -- ---- A command that moves
@@ -174,11 +175,11 @@ pub HasFound-looked : {P : Type 0} (allows : P → Candidate → Bool) (follows 
 HasFound-looked {P} allows follows failed moment op a b c old new p q answer done h =
     let look : Step = step_of moment (entry.Looked op a b h.kept h.how) in
     record {
-      ahead = h.grows.added;
+      ahead = h.grows.appends.added;
       kept = h.kept;
       how = h.how;
       rest = h.rest;
-      steps = h.steps ∙ ap (λ (xs : List Step). xs ++ look ∷ h.rest) h.grows.steps ∙ append_assoc old.steps h.grows.added (look ∷ h.rest);
+      steps = h.steps ∙ ap (λ (xs : List Step). xs ++ look ∷ h.rest) h.grows.appends.steps ∙ append_assoc old.steps h.grows.appends.added (look ∷ h.rest);
       found = subst (λ x. IsAnswerOf x h.how) done h.answers;
     }
 

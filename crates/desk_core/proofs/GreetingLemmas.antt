@@ -13,6 +13,7 @@ use Rattle.write_retry.specs.declared.events.Unsent.{Unsent}
 use Rattle.write_retry.specs.declared.events.Unsent.TheVariants as unsent
 use Rattle.desk_trail.specs.Attempts.{not_lent_offers}
 use Rattle.desk_trail.specs.Checks.{AtServer}
+use Rattle.desk_trail.specs.Facts.{Fact}
 use Rattle.desk_trail.specs.Legal.{Point}
 use Rattle.desk_trail.specs.Owed as owed
 use Rattle.desk_trail.specs.States.{ClientState, CommandState, Dials, ServerState}
@@ -29,7 +30,7 @@ use Rattle.cmd_step.specs.declared.place.At.{At}
 use Rattle.cmd_step.specs.declared.settled.Greeted.{Greeted}
 use Rattle.cmd_step.specs.declared.settled.Settling.{Settling}
 use Rattle.cmd_step.specs.declared.settled.Settling.TheVariants as settling
-use Rattle.desk_core.specs.Appends.{Appends}
+use Rattle.desk_core.specs.Appends.{AppendsOf, IsOfOp}
 use Rattle.desk_core.specs.CheckLines.{KeepsCheckLines}
 use Rattle.desk_core.specs.CheckOuts.{IsToOfferLoss, KeepsAddress, heard, news_of}
 use Rattle.desk_core.specs.Commands.{MovesOne}
@@ -39,7 +40,7 @@ use Rattle.desk_core.specs.Servers.{closing_of, closings}
 use Rattle.desk_core.specs.State.{Core}
 use Rattle.desk_core.specs.declared.greeting.Dialled.{Dialled}
 use Rattle.desk_core.proofs.AnswerLemmas.{Came, Came-lost, Came-news, Came-trans, came}
-use Rattle.desk_core.proofs.AppendsLemmas.{grown-same}
+use Rattle.desk_core.proofs.AppendsLemmas.{Plain-aside, grown-same}
 use Rattle.desk_core.proofs.ComesLemmas.{Comes, Comes-lent, Comes-not_lent, Comes-settled, Comes-shut, Comes-unsent, IsKept-comes, IsMoved, IsMoved-both, KeepsAddress-comes, closing-less, closing-within, set-there}
 use Rattle.desk_core.proofs.DropLemmas.{read-there}
 use Rattle.desk_core.proofs.PoolLemmas.{at-servers}
@@ -76,12 +77,12 @@ told-now kept now time news greatest a b c = ap (λ n. told_by n greatest) a ∙
 pub record IsPast (at : At) (news : Option ℕ) (old new : Recorded) (t : ServerState) (d : CommandState) : Type 0 where
   pub n : ℕ
   pub few : n ≤ 5
-  pub comes : Comes ⊥ n at.moment old new
+  pub comes : Comes ⊥ (IsOfOp at.op) n at.moment old new
   pub moved : IsMoved old new at t d
   pub time : new.point.time ≡ told_by news old.point.time
   pub now : new.point.moment ≡ at.moment
 
-IsPast-came : (at : At) (news : Option ℕ) (old new : Recorded) (t : ServerState) (d : CommandState) → Came ⊥ 5 at.moment old new → IsMoved old new at t d →
+IsPast-came : (at : At) (news : Option ℕ) (old new : Recorded) (t : ServerState) (d : CommandState) → Came ⊥ (IsOfOp at.op) 5 at.moment old new → IsMoved old new at t d →
     new.point.time ≡ told_by news old.point.time → new.point.moment ≡ at.moment → IsPast at news old new t d
 IsPast-came at news old new t d c moved time now = record { n = c.n; few = c.few; comes = c.comes; moved = moved; time = time; now = now }
 
@@ -89,9 +90,9 @@ pub IsPast-settled : (at : At) (greeted : Greeted) (x : Settling) (old new : Rec
     IsPast at greeted.news old new t d
 IsPast-settled at greeted settling.Lent old new t d h =
     let m = at.moment in
-    let settled : Came ⊥ 1 m old h.mid = came {R = ⊥} 1 1 m old h.mid (omega arith) (Comes-settled {R = ⊥} m at.op at.host greeted.conn false old h.mid h.settled) in
-    let lent : Came ⊥ 1 m h.heard new = came {R = ⊥} 1 1 m h.heard new (omega arith) (Comes-lent {R = ⊥} m at.op at.host greeted.conn h.heard new h.lent) in
-    let all : Came ⊥ 3 m old new =
+    let settled : Came ⊥ (IsOfOp at.op) 1 m old h.mid = came {R = ⊥} 1 1 m old h.mid (omega arith) (Comes-settled {R = ⊥} m at.op at.host greeted.conn false old h.mid h.settled) in
+    let lent : Came ⊥ (IsOfOp at.op) 1 m h.heard new = came {R = ⊥} 1 1 m h.heard new (omega arith) (Comes-lent {R = ⊥} m at.op at.host greeted.conn h.heard new h.lent) in
+    let all : Came ⊥ (IsOfOp at.op) 3 m old new =
     Came-trans {R = ⊥} 2 1 m old h.heard new (Came-trans {R = ⊥} 1 1 m old h.mid h.heard settled (Came-news {R = ⊥} m greeted.news h.mid h.heard h.news)) lent in
     let few = all.few in
     IsPast-came at greeted.news old new t d (came {R = ⊥} all.n 5 m old new (omega arith) all.comes) (IsMoved-both old new at t d h.moved)
@@ -99,12 +100,12 @@ IsPast-settled at greeted settling.Lent old new t d h =
     (ap (λ (p : Point). p.moment) h.lent.point_now)
 IsPast-settled at greeted (settling.Refused why) old new t d h =
     let m = at.moment in
-    let settled : Came ⊥ 1 m old h.mid = came {R = ⊥} 1 1 m old h.mid (omega arith) (Comes-settled {R = ⊥} m at.op at.host greeted.conn true old h.mid h.settled) in
-    let shuts : Came ⊥ 1 m h.heard h.shut = came {R = ⊥} 1 1 m h.heard h.shut (omega arith) (Comes-shut {R = ⊥} m at.host greeted.conn _ h.heard h.shut h.shuts) in
-    let told : Came ⊥ 1 m h.shut h.refused = came {R = ⊥} 1 1 m h.shut h.refused (omega arith) (Comes-not_lent {R = ⊥} m at.op at.host why h.shut h.refused h.told) in
-    let ends : Came ⊥ 1 m h.refused new = came {R = ⊥} 1 1 m h.refused new (omega arith) (Comes-unsent {R = ⊥} m at.op why h.refused new h.ends) in
-    let first : Came ⊥ 2 m old h.heard = Came-trans {R = ⊥} 1 1 m old h.mid h.heard settled (Came-news {R = ⊥} m greeted.news h.mid h.heard h.news) in
-    let last : Came ⊥ 2 m h.shut new = Came-trans {R = ⊥} 1 1 m h.shut h.refused new told ends in
+    let settled : Came ⊥ (IsOfOp at.op) 1 m old h.mid = came {R = ⊥} 1 1 m old h.mid (omega arith) (Comes-settled {R = ⊥} m at.op at.host greeted.conn true old h.mid h.settled) in
+    let shuts : Came ⊥ (IsOfOp at.op) 1 m h.heard h.shut = came {R = ⊥} 1 1 m h.heard h.shut (omega arith) (Comes-shut {R = ⊥} m at.host greeted.conn _ h.heard h.shut (Plain-aside at.op _ (λ o. refl)) h.shuts) in
+    let told : Came ⊥ (IsOfOp at.op) 1 m h.shut h.refused = came {R = ⊥} 1 1 m h.shut h.refused (omega arith) (Comes-not_lent {R = ⊥} m at.op at.host why h.shut h.refused h.told) in
+    let ends : Came ⊥ (IsOfOp at.op) 1 m h.refused new = came {R = ⊥} 1 1 m h.refused new (omega arith) (Comes-unsent {R = ⊥} m at.op why h.refused new h.ends) in
+    let first : Came ⊥ (IsOfOp at.op) 2 m old h.heard = Came-trans {R = ⊥} 1 1 m old h.mid h.heard settled (Came-news {R = ⊥} m greeted.news h.mid h.heard h.news) in
+    let last : Came ⊥ (IsOfOp at.op) 2 m h.shut new = Came-trans {R = ⊥} 1 1 m h.shut h.refused new told ends in
     IsPast-came at greeted.news old new t d (Came-trans {R = ⊥} 3 2 m old h.shut new (Came-trans {R = ⊥} 2 1 m old h.heard h.shut first shuts) last) (IsMoved-both old new at t d h.moved)
     (ap (λ (p : Point). p.time) h.ends.point_now ∙ ap (λ (p : Point). p.time) h.told.point_now ∙ ap (λ (p : Point). p.time) h.shuts.point_now
     ∙ time-told m greeted.news h.mid h.heard h.news ∙ ap (λ (p : Point). told_by greeted.news p.time) h.settled.point_now)
@@ -113,7 +114,7 @@ IsPast-settled at greeted (settling.Refused why) old new t d h =
 pub IsPast-lost : (at : At) (loss : Loss) (old new : Recorded) (t : ServerState) (d : CommandState) → IsLost at loss old new t d → IsPast at loss.news old new t d
 IsPast-lost at loss old new t d h =
     let m = at.moment in
-    let all : Came ⊥ 4 m old new = Came-lost {R = ⊥} at loss old new t d h in
+    let all : Came ⊥ (IsOfOp at.op) 4 m old new = Came-lost {R = ⊥} at loss old new t d h in
     let few = all.few in
     IsPast-came at loss.news old new t d (came {R = ⊥} all.n 5 m old new (omega arith) all.comes) (IsMoved-both old new at t d h.moved)
     (ap (λ (p : Point). p.time) h.shuts.point_now ∙ ap (λ (p : Point). p.time) h.ends.point_now ∙ time-told m loss.news h.mid h.heard h.news
@@ -224,6 +225,6 @@ MovesOne-room op c old new same there = record {
   ids = ap (λ (r : Recorded). r.lists.sessions) same;
 }
 
-pub grown-room : {R : Type 0} (moment : ℕ) (old new : Recorded) → new ≡ record old { room = new.room } → Appends R moment old new
-grown-room {R} moment old new same =
+pub grown-room : {R : Type 0} {P : Fact → Type 0} (moment : ℕ) (old new : Recorded) → new ≡ record old { room = new.room } → AppendsOf R P moment old new
+grown-room {R} {P} moment old new same =
     grown-same {R = R} moment old new (ap (λ (r : Recorded). r.client) same) (ap (λ (r : Recorded). r.lists) same) (ap (λ (r : Recorded). r.steps) same)

@@ -1,6 +1,7 @@
 -- A command leases a session, draws from it and gives it back: the trail behind these entries, and what is kept.
 use Rattle.std.proofs.Common.{◌≡◌, ◌≢◌, ◌≤◌, ℕ, zero, suc, ◌+◌, Bool, true, false, not, ◌&&◌, List, [], ◌∷◌, ◌++◌, Option, None, Some, is_some, refl, sym, ap, ◌∙◌, subst, arith}
 use Rattle.std.specs.Prelude.{ℤ, slice_get, slice_set, if◌then◌else◌}
+use Rattle.std.proofs.lemmas.Bool.{eqb-true}
 use Rattle.bson_doc.specs.declared.cluster_time.ClusterTime.{ClusterTime}
 use Rattle.bson_doc.specs.declared.ids.Lsid.{Lsid}
 use Rattle.sess_book.specs.Sessions.{Sessions}
@@ -29,7 +30,7 @@ use Rattle.sess_step.specs.Moves.{IsLeased, IsReturned, Leases, lease_lists, lea
 use Rattle.sess_step.specs.declared.command_at.CommandAt.{CommandAt}
 use Rattle.sess_step.specs.declared.leasing.LeaseAnswer.{LeaseAnswer}
 use Rattle.sess_step.specs.declared.leasing.LeaseAnswer.TheVariants as answer
-use Rattle.desk_core.specs.Appends.{Appends}
+use Rattle.desk_core.specs.Appends.{AppendsOf, IsOfLease, LeasesBy}
 use Rattle.desk_core.specs.Commands.{MovesLease}
 use Rattle.desk_core.specs.Kept.{IsKept}
 use Rattle.desk_core.proofs.AppendsLemmas.{AreGrown, AreGrown-longer, AreGrown-session, AreLonger-refl, grown-adds, grown-same}
@@ -142,11 +143,17 @@ MovesLease-leases old new at s t c d own (answer.Repeated lsid) l there book ids
   ids = ids;
 }
 
+-- a fresh session has the id of the words
+leases-by : (place : ℕ) (lsid own : Lsid) (op : ℕ) (fresh : Bool) → (fresh ≡ true → lsid ≡ own) → LeasesBy own (fact.Leased op place lsid fresh)
+leases-by place lsid own op true made = made refl
+leases-by place lsid own op false made = tt
+
 pub grown-leases : {R : Type 0} (old new : Recorded) (at : CommandAt) (s t : Sessions) (c d : CommandState) (own : Lsid) (a : LeaseAnswer) → Leases old new at s t c d own a →
-    Appends R at.moment old new
+    AppendsOf R (IsOfLease at.op own) at.moment old new
 grown-leases {R} old new at s t c d own answer.Leased l =
     grown-adds (lease_room l.fresh) (lease_lists l.fresh l.lsid old.lists) at.moment (entry.Leased at.op l.place l.fresh) (fact.Leased at.op l.place l.lsid l.fresh) old new
     (grown-lease l.fresh l.lsid old.lists) l.adds (λ e. absurd (cc))
+    (λ x y. record { names = λ o e. sym (eqb-true at.op o e); looks = tt; leases = leases-by l.place l.lsid own at.op l.fresh l.taken.made })
 grown-leases {R} old new at s t c d own (answer.Repeated lsid) l =
     grown-same at.moment old new (ap (λ (r : Recorded). r.client) l.2) (ap (λ (r : Recorded). r.lists) l.2) (ap (λ (r : Recorded). r.steps) l.2)
 

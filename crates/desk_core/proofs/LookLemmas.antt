@@ -28,12 +28,13 @@ use Rattle.desk_trail.specs.Written.{an_entry, step_of, with_entry}
 use Rattle.legal_trail.specs.Recorded.{Adds, Recorded}
 use Rattle.wired_trail.specs.Lines.{Lines as WireLines}
 use Rattle.cmd_step.specs.Looked.{servers_behind}
-use Rattle.desk_core.specs.Appends.{Appends, KeepsCommands}
+use Rattle.desk_core.specs.Appends.{AppendsOf, NamesNone}
 use Rattle.desk_core.specs.Kept.{IsKept, LeadsTo, client_of}
 use Rattle.desk_core.specs.Looks.{HasLooked, IsAnswerOf, IsPicked, IsRead, StillSelects}
 use Rattle.desk_core.specs.declared.progress.Progress.{Progress}
 use Rattle.desk_core.specs.Servers.{AreKeptServers, IsKeptServer, closing_of, closings}
 use Rattle.desk_core.specs.Steps.{IsWaiting, for_server}
+use Rattle.desk_core.proofs.AppendsLemmas.{IsAside}
 use Rattle.desk_core.proofs.CheckLemmas.{Changes, LeadsTo-changes}
 use Rattle.desk_core.proofs.KeptLemmas.{length-with_entry, restated, servers-of}
 use Rattle.desk_core.proofs.ServerLemmas.{AreKeptServers-more, AreKeptServers-set, closings-set_kept, slice_get-set_same}
@@ -54,8 +55,8 @@ StandsAt-dry client p moment host paid at going rule = record {
   command = tt;
 }
 
-pub kept-by_dry : (client : Client) (moment : ℕ) (w : ClientState) (host : ℕ) → KeepsCommands w (client_after client moment w (fact.CheckDry host))
-kept-by_dry client moment w host = record { commands = refl; sessions = refl }
+pub kept-by_dry : (client : Client) (moment : ℕ) (w : ClientState) (host : ℕ) → IsAside client moment w (fact.CheckDry host)
+kept-by_dry client moment w host = record { keeps = record { commands = refl; sessions = refl }; names = λ o. refl }
 
 Changes-dry : (old new : Recorded) (moment k : ℕ) (s : ServerState) (e : Entry) → Adds an_entry old.lists moment e (fact.CheckDry k) old new →
     slice_get old.point.state.servers k ≡ Some s → Changes old new k (dried moment s) × (new.point.state.requests ≡ old.point.state.requests)
@@ -283,7 +284,7 @@ written-back n xs items same room =
 -- the trail ahead of it, its entry, and what came behind it
 pub HasLooked-by : {P : Type 0} (allows : P → Candidate → Bool) (follows : P → Candidate → P → Type 0) (failed : Type 0) (moment op a b : ℕ) (c : CommandState)
     (old ahead told new : Recorded) (p q : P) (answer : Progress) (kept : List ℕ) (how : LookedHow) (rest : List Step) →
-    (moment < deadline old.client c moment → ahead ≡ old) → Appends failed moment old ahead →
+    (moment < deadline old.client c moment → ahead ≡ old) → AppendsOf failed NamesNone moment old ahead →
     ahead.point ≡ point_behind ahead.client (facts_of ahead.lists ahead.steps) →
     told.steps ≡ with_entry ahead.steps moment (entry.Looked op a b kept how) → new.steps ≡ told.steps ++ rest →
     IsPicked allows follows ahead.client ahead.point.state op c p kept q → IsAnswerOf answer how →

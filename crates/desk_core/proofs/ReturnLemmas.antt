@@ -30,12 +30,12 @@ use Rattle.cmd_step.specs.CheckIns.{ComesBack, HasLent}
 use Rattle.cmd_step.specs.Places.{AreAt, with_both}
 use Rattle.cmd_step.specs.declared.checking_in.Back.{Back}
 use Rattle.cmd_step.specs.declared.place.At.{At}
-use Rattle.desk_core.specs.Appends.{Appends}
+use Rattle.desk_core.specs.Appends.{AppendsOf, IsOfOp}
 use Rattle.desk_core.specs.Commands.{MovesOne}
 use Rattle.desk_core.specs.CheckLines.{KeepsCheckLines}
 use Rattle.desk_core.specs.Kept.{IsKept}
 use Rattle.desk_core.specs.Servers.{closing_of, closings}
-use Rattle.desk_core.proofs.AppendsLemmas.{grown-trans}
+use Rattle.desk_core.proofs.AppendsLemmas.{Plain-aside, Plain-own, grown-trans}
 use Rattle.desk_core.proofs.BesideLemmas.{GoesBeside, GoesBeside-entry, GoesBeside-trans, IsKept-beside, grown-entry}
 use Rattle.desk_core.proofs.PoolLemmas.{servers-led}
 use Rattle.desk_core.proofs.ServerLemmas.{at_place, closings-set, elsewhere, slice_get-set, slice_get-set_same}
@@ -217,15 +217,17 @@ IsReturned-by at back (fate.Shut reason) old new s t c d l places h =
     }
 
 pub grown-returned : {R : Type 0} (at : At) (back : Back) (f : Fate) (old new : Recorded) (t : ServerState) (d : CommandState) → ComesBack at back f old new t d →
-    Appends R at.moment old new
+    AppendsOf R (IsOfOp at.op) at.moment old new
 grown-returned {R} at back fate.Kept old new t d h =
     grown-entry an_entry at.moment (entry_of.CheckedIn at.op at.host back.conn back.errored) (fact.CheckedIn at.op at.host back.conn back.errored) old new h.adds (λ e. absurd (cc))
+    (Plain-own at.op (fact.CheckedIn at.op at.host back.conn back.errored) (λ o e. e) (λ x y. tt) (λ own. tt))
 grown-returned {R} at back (fate.Shut reason) old new t d h =
     let mid : Recorded = h.mid in
     grown-trans at.moment old mid new
     (grown-entry an_entry at.moment (entry_of.CheckedIn at.op at.host back.conn back.errored) (fact.CheckedIn at.op at.host back.conn back.errored) old mid h.adds
-    (λ e. absurd (cc)))
-    (grown-entry an_entry at.moment (entry_of.ConnShut at.host back.conn reason) (fact.ConnShut at.host back.conn reason) mid new h.shuts (λ e. absurd (cc)))
+    (λ e. absurd (cc)) (Plain-own at.op (fact.CheckedIn at.op at.host back.conn back.errored) (λ o e. e) (λ x y. tt) (λ own. tt)))
+    (grown-entry an_entry at.moment (entry_of.ConnShut at.host back.conn reason) (fact.ConnShut at.host back.conn reason) mid new h.shuts (λ e. absurd (cc))
+    (Plain-aside at.op (fact.ConnShut at.host back.conn reason) (λ o. refl)))
 
 pub MovesOne-returned : (at : At) (old new : Recorded) (s t : ServerState) (c d : CommandState) → IsReturned at old new s t c d → MovesOne at.op d old new
 MovesOne-returned at old new s t c d h = record {

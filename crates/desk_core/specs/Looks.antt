@@ -15,7 +15,7 @@ use Rattle.desk_trail.specs.Looks.{deadline, first_look}
 use Rattle.desk_trail.specs.States.{ClientState, CommandState, Selection, ServerState}
 use Rattle.desk_trail.specs.Written.{step_of}
 use Rattle.legal_trail.specs.Recorded.{Recorded}
-use Rattle.desk_core.specs.Appends.{Appends}
+use Rattle.desk_core.specs.Appends.{AppendsOf, NamesNone}
 use Rattle.desk_core.specs.declared.progress.Progress.{Progress}
 use Rattle.desk_core.specs.declared.progress.Progress.TheVariants as progress
 
@@ -48,7 +48,7 @@ pub record HasLooked {P : Type 0} (allows : P → Candidate → Bool) (follows :
     (c : CommandState) (old new : Recorded) (p q : P) (answer : Progress) : Type 0 where
   pub ahead : Recorded
   pub early : moment < deadline old.client c moment → ahead ≡ old
-  pub grows : Appends failed moment old ahead
+  pub grows : AppendsOf failed NamesNone moment old ahead
   pub leads : ahead.point ≡ point_behind ahead.client (facts_of ahead.lists ahead.steps)
   pub kept : List ℕ
   pub how : LookedHow

@@ -4,7 +4,7 @@ ghost use Rattle.net_link.specs.Causes.{Rose};
 ghost use Rattle.write_retry.specs.declared.events.Next.TheVariants as next_of;
 ghost use Rattle.write_retry.specs.declared.outcome.Outcome.{Outcome as Came};
 ghost use Rattle.sess_step.specs.Choices.{AreIds};
-ghost use Rattle.desk_core.specs.Appends.{Appends};
+ghost use Rattle.desk_core.specs.Appends.{AppendsOf, IsOfOp};
 ghost use Rattle.desk_core.specs.Commands.{IsAtWork, MovesLease};
 ghost use Rattle.desk_core.specs.Kept.{IsReady};
 
@@ -39,7 +39,7 @@ impl<N: Net> Core<N> {
         ensures moves { OnOk result (MovesLease op operation.new sessions.new self.old.trail self.new.trail) }
         ensures late { OnOk result (sessions.new.last ≤ moment) }
         ensures finished { OnOk result (operation.new.is_finished ≡ true) }
-        ensures appends { Appends (Rose (N.faults self.old.net) (N.faults self.new.net)) moment self.old.trail self.new.trail }
+        ensures appends { AppendsOf (Rose (N.faults self.old.net) (N.faults self.new.net)) (IsOfOp op) moment self.old.trail self.new.trail }
         ensures faults { N.faults self.old.net ≤ N.faults self.new.net }
         ensures net { self.new.net ≡ self.old.net }
     {
@@ -54,6 +54,8 @@ impl<N: Net> Core<N> {
         let room = room_for(self.closings, 2, 0)?;
         self.wired.reserve(room)?;
         finish(&mut self.wired, moment, op, running, outcome);
+        // (it began, since only a look leads to an answer)
+        self.begun = self.begun.saturating_sub(1);
         let session = running.session();
         if session.is_none() {
             return Ok(());

@@ -3,7 +3,7 @@ ghost use Rattle.std.specs.Prelude.{◌≡◌, ◌≤◌, ◌<◌, ◌+◌, ◌^
 ghost use Rattle.net_link.specs.Causes.{Rose};
 ghost use Rattle.desk_trail.specs.Owed as owed;
 ghost use Rattle.desk_trail.specs.States.{Nothing};
-ghost use Rattle.desk_core.specs.Appends.{Appends};
+ghost use Rattle.desk_core.specs.Appends.{AppendsOf, IsOfOp};
 ghost use Rattle.desk_core.specs.Commands.{MovesOne};
 ghost use Rattle.desk_core.specs.Kept.{IsReady, IsWriting};
 ghost use Rattle.desk_core.specs.Lending.{IsLentTo};
@@ -33,7 +33,7 @@ impl<N: Net> Core<N> {
         ensures moves { OnOk result (MovesOne op operation.new self.old.trail self.new.trail) }
         ensures next { OnOk result (operation.new.op ≡ operation.old.op) }
         ensures free { OnOk result (operation.new.check_out ≡ Nothing) }
-        ensures appends { Appends (Rose (N.faults self.old.net) (N.faults self.new.net)) moment self.old.trail self.new.trail }
+        ensures appends { AppendsOf (Rose (N.faults self.old.net) (N.faults self.new.net)) (IsOfOp op) moment self.old.trail self.new.trail }
         ensures faults { N.faults self.old.net ≤ N.faults self.new.net }
     {
         let Some(lent) = self.lent_to(&operation.running) else {
@@ -61,7 +61,7 @@ impl<N: Net> Core<N> {
         ensures moves { MovesOne at.op operation.new self.old.trail self.new.trail }
         ensures next { operation.new.op ≡ operation.old.op }
         ensures free { operation.new.check_out ≡ Nothing }
-        ensures appends { Appends (Rose (N.faults self.old.net) (N.faults self.new.net)) at.moment self.old.trail self.new.trail }
+        ensures appends { AppendsOf (Rose (N.faults self.old.net) (N.faults self.new.net)) (IsOfOp at.op) at.moment self.old.trail self.new.trail }
         ensures faults { N.faults self.old.net ≤ N.faults self.new.net }
     {
         let LentAt { moment, op, lent } = at;

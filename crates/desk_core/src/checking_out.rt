@@ -5,7 +5,7 @@ ghost use Rattle.pool_book.specs.Pool.{is_swept};
 ghost use Rattle.desk_trail.specs.Checks.{AtServer};
 ghost use Rattle.desk_trail.specs.States.{ServerState, Waits};
 ghost use Rattle.net_link.specs.Causes.{Rose};
-ghost use Rattle.desk_core.specs.Appends.{Appends, AppendsAside};
+ghost use Rattle.desk_core.specs.Appends.{AppendsAside, AppendsOf, IsOfOp};
 ghost use Rattle.desk_core.specs.CheckOuts.{IsBehindAnswer, IsBroken, IsPlain, KeepsAddress};
 ghost use Rattle.desk_core.specs.Commands.{IsAtWork, MovesOne};
 ghost use Rattle.desk_core.specs.Kept.{IsReady};
@@ -16,6 +16,7 @@ use crate::checks::room_for;
 use crate::closings::closing_of;
 use crate::operation::Operation;
 use crate::progress::Progress;
+use crate::reserving::reserve_beside;
 use crate::state::Core;
 use cmd_state::CheckOut;
 use cmd_step::{Answer, At};
@@ -69,7 +70,7 @@ impl<N: Net> Core<N> {
     {
         let available = self.servers[host as usize].available().len();
         let room = room_for(self.closings, available, 0)?;
-        self.wired.reserve(room)?;
+        reserve_beside(&mut self.wired, self.begun, room)?;
         let server = &mut self.servers[host as usize];
         let before = closing_of(server);
         cmd_step::sweep(&mut self.wired, server, host, moment);
@@ -94,7 +95,7 @@ impl<N: Net> Core<N> {
         ensures answer { IfOk result (IsBehindAnswer self.new moment host operation.new) }
         ensures moves { OnOk result (MovesOne op operation.new self.old.trail self.new.trail) }
         ensures stays { OnOk result (KeepsAddress host self.old.trail.point.state self.new.trail.point.state) }
-        ensures appends { Appends (Rose (N.faults self.old.net) (N.faults self.new.net)) moment self.old.trail self.new.trail }
+        ensures appends { AppendsOf (Rose (N.faults self.old.net) (N.faults self.new.net)) (IsOfOp op) moment self.old.trail self.new.trail }
         ensures faults { N.faults self.old.net ≤ N.faults self.new.net }
     {
         let room = room_for(self.closings, 5, 1)?;
@@ -183,7 +184,7 @@ impl<N: Net> Core<N> {
         requires waits { (host : ℕ) × (ticket : ℕ) × (operation.old.check_out ≡ Waits host ticket) }
         ensures ok { OnOk result (IsReady self.new moment) }
         ensures moves { OnOk result (MovesOne op operation.new self.old.trail self.new.trail) }
-        ensures appends { Appends (Rose (N.faults self.old.net) (N.faults self.new.net)) moment self.old.trail self.new.trail }
+        ensures appends { AppendsOf (Rose (N.faults self.old.net) (N.faults self.new.net)) (IsOfOp op) moment self.old.trail self.new.trail }
         ensures faults { N.faults self.old.net ≤ N.faults self.new.net }
         ensures means { IfOk result (MeansPhase self.old.trail.client self.new.trail.point.state moment operation.new) }
     {

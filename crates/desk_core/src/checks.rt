@@ -12,6 +12,7 @@ ghost use Rattle.net_link.specs.Causes.{HasCause, Rose};
 ghost use Rattle.topo_book.specs.Means.{stands_known};
 ghost use Rattle.topo_rules.specs.declared.event.TopoEvent.TheVariants as event_as;
 ghost use Rattle.topo_rules.specs.Laws.{listed_by};
+ghost use Rattle.wired_trail.specs.Faults.{IsUntold};
 ghost use Rattle.wired_trail.specs.Hearing.{HasUntoldDial, told_of};
 ghost use Rattle.wired_trail.specs.Lines.{line_at};
 ghost use Rattle.wired_trail.specs.declared.lines.Line.{Line};
@@ -27,6 +28,7 @@ use crate::Memory;
 use crate::check_result::{CheckResult, Running, broken};
 use crate::driven::{EndAt, drive, limit_of, tell_end};
 use crate::hello::{hello_bytes, id_of};
+use crate::reserving::reserve_beside;
 use crate::state::Core;
 use bson_doc::{Bytes, ClusterTime};
 use desk_trail::{CheckHow, Entry, Purpose, Request, Room};
@@ -107,6 +109,7 @@ impl<N: Net> Core<N> {
         ensures stream { IfOk result (λ r. IfSome r (λ stream. IsNew self.old.trail.point.state stream
             × (line_at self.new.lines stream ≡ Some (record { wire = opened stream; is_for = for_use.Check host })))) }
         ensures untold { N.tells → result ≡ Ok None → HasUntoldDial (N.history self.new.net) self.new.trail }
+        ensures counted { result ≡ Ok None → IsUntold (N.faults self.new.net) self.new.trail.steps }
         ensures cause { HasCause (N.faults self.old.net) (N.faults self.new.net) (result ≡ Ok None) }
     {
         let address = self.servers[host as usize].host().text(alloc)?;
@@ -160,7 +163,7 @@ impl<N: Net> Core<N> {
         let (request, bytes) = check_hello(alloc, host, stream, place, first)?;
         let id = request.id;
         let room = room_for(self.closings, 2, 1)?;
-        self.wired.reserve(room)?;
+        reserve_beside(&mut self.wired, self.begun, room)?;
         self.wired
             .append(moment, Entry::CheckBegan { host, stream });
         self.wired.ask(moment, request, bytes);
@@ -174,6 +177,7 @@ impl<N: Net> Core<N> {
         requires begins { (rest : List Owed) × IsToBegin self.old moment host rest }
         requires due { AtServer self.old.trail.point.state host (λ s. IsDue moment s × (s.check_stream ≡ None)) }
         requires untold { N.tells → HasUntoldDial (N.history self.old.net) self.old.trail }
+        requires counted { IsUntold (N.faults self.old.net) self.old.trail.steps }
         ensures ok { (rest : List Owed) → IsToBegin self.old moment host rest → OnOk result (IsWriting self.new moment 0 rest) }
         ensures rests { OnOk result (IsAtRest self.new.trail.point.state moment host) }
         ensures faults { N.faults self.old.net ≤ N.faults self.new.net }
@@ -186,7 +190,7 @@ impl<N: Net> Core<N> {
             None,
         )?;
         let room = room_for(self.closings, 1, 0)?;
-        self.wired.reserve(room)?;
+        reserve_beside(&mut self.wired, self.begun, room)?;
         let known = is_known(&self.topology, self.servers[host as usize].host());
         self.wired
             .tell_undialled(moment, Entry::CheckEnded { host, how: end.how });
@@ -262,7 +266,7 @@ impl<N: Net> Core<N> {
         ensures appends { AppendsAside (Rose (N.faults self.old.net) (N.faults self.new.net)) moment self.old.trail self.new.trail }
     {
         let room = room_for(self.closings, 2, 0)?;
-        self.wired.reserve(room)?;
+        reserve_beside(&mut self.wired, self.begun, room)?;
         let server = &self.servers[host as usize];
         let (Some(stream), Some(began)) = (server.check_stream(), server.began()) else {
             unreachable!()

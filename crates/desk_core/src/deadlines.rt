@@ -6,6 +6,7 @@ ghost use Rattle.desk_core.specs.Kept.{IsReady};
 ghost use Rattle.desk_core.specs.Looks.{IsRead};
 
 use crate::checks::room_for;
+use crate::reserving::reserve_beside;
 use crate::state::Core;
 use crate::{Memory, Sight};
 use desk_trail::Entry;
@@ -23,7 +24,7 @@ impl<N: Net> Core<N> {
         ensures appends { AppendsAside ⊥ moment self.old.trail self.new.trail }
     {
         let room = room_for(self.closings, 1, 0)?;
-        self.wired.reserve(room)?;
+        reserve_beside(&mut self.wired, self.begun, room)?;
         self.wired.append(moment, Entry::CheckDry { host });
         let server = &mut self.servers[host as usize];
         server.find_dry(moment);

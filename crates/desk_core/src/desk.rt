@@ -4,7 +4,7 @@ ghost use Rattle.desk_trail.specs.Facts.{facts_of};
 ghost use Rattle.desk_trail.specs.Legal.{IsComplete, IsLegal, point_behind};
 ghost use Rattle.desk_trail.specs.Written.{lists_of};
 ghost use Rattle.legal_trail.specs.Recorded.{Recorded};
-ghost use Rattle.desk_core.specs.Appends.{Appends, AreQuiet};
+ghost use Rattle.desk_core.specs.Appends.{Appends, AreQuiet, NamesNone, Tells, TellsAside, TellsOf};
 ghost use Rattle.desk_core.specs.Due.{IsNext};
 ghost use Rattle.desk_core.specs.Ending.{ArePoolsShut};
 ghost use Rattle.desk_core.specs.Sights.{MeansCheck};
@@ -12,6 +12,7 @@ ghost use Rattle.desk_trail.specs.Attempts.{AtCommand};
 ghost use Rattle.desk_core.specs.Nexts.{IsNextIn};
 ghost use Rattle.desk_core.specs.State.{AreShallow, now_of};
 ghost use Rattle.desk_core.specs.Steps.{MeansStep};
+ghost use Rattle.wired_trail.specs.Faults.{IsCounted};
 ghost use Rattle.wired_trail.specs.Wired.{IsWired};
 ghost use Rattle.write_effects.specs.Each.{EachTakesEffectOnce};
 
@@ -118,10 +119,11 @@ impl<N: Net, P: Picker> Desk<N, P> {
     }
 
     /// All that it did so far, entry by entry: a legal trail, and a complete one unless the desk stopped. It leads to the point.
-    /// Where the net tells, it is what that told.
+    /// Where the net tells, it is what that told. It tells at most as many failed calls as the net counted.
     pub fn steps(&self) -> &[Step]
         ensures value { result.now ≡ self.now.trail.steps }
         ensures wired { N.tells → IsWired self.now.trail.client (N.history self.now.net) (facts_of self.now.trail.lists self.now.trail.steps) }
+        ensures counted { IsCounted (N.faults self.now.net) self.now.trail.steps }
         ensures legal { IsLegal self.now.trail.client self.now.trail.lists self.now.trail.steps }
         ensures complete { self.now.is_stopped ≡ false → IsComplete self.now.trail.client self.now.trail.lists self.now.trail.steps }
         ensures point { self.now.trail.point ≡ point_behind self.now.trail.client (facts_of self.now.trail.lists self.now.trail.steps) }
@@ -156,6 +158,8 @@ impl<N: Net, P: Picker> Desk<N, P> {
     /// `Wait` that it waits, until a later moment, for a server, a connection or the net; `Again` that its next step goes on at
     /// once: it found no session to lease, since the id of `words.c` and `words.d` was used before, and leases one by other words;
     /// or its attempt ended behind this step's look, and it looks for a server once more. After `Memory` the desk is stopped.
+    /// What it appends of a command is of this one, also where it stops; a look among it is by `words.a` and `words.b`, and a session
+    /// that it leases fresh has the id of `words.c` and `words.d`.
     pub fn step_op(
         &mut self,
         alloc: Global,
@@ -168,6 +172,7 @@ impl<N: Net, P: Picker> Desk<N, P> {
         ensures now { self.new.last ≡ now_of self.old.last moment }
         ensures sight { IfOk result (MeansStep (now_of self.old.last moment) op words self.old.trail self.new.trail) }
         ensures appends { Appends (Rose (N.faults self.old.net) (N.faults self.new.net)) (now_of self.old.last moment) self.old.trail self.new.trail }
+        ensures names { TellsOf op words self.old.trail self.new.trail }
         ensures ok { OnOk result (self.new.is_stopped ≡ false) }
         ensures err { OnErr result (self.new.is_stopped ≡ true) }
         ensures faults { N.faults self.old.net ≤ N.faults self.new.net }
@@ -194,11 +199,13 @@ impl<N: Net, P: Picker> Desk<N, P> {
     /// trail has the moment of the step, which is no earlier than the last one's. `Answered` says that behind the step no check
     /// of the server is due or runs, so too of a number that no server of the topology has; `Wait` that one runs whose answer is
     /// waited for until a later moment, connectTimeoutMS after it began. It is never `Again`. After `Memory` the desk is stopped.
+    /// It appends no entry of a command, also where it stops.
     pub fn step_check(&mut self, alloc: Global, host: u32, moment: u64) -> Result<Sight, Memory>
         requires runs { self.old.is_stopped ≡ false }
         ensures now { self.new.last ≡ now_of self.old.last moment }
         ensures sight { IfOk result (MeansCheck self.new.trail.client self.new.trail.point.state (now_of self.old.last moment) host) }
         ensures appends { Appends (Rose (N.faults self.old.net) (N.faults self.new.net)) (now_of self.old.last moment) self.old.trail self.new.trail }
+        ensures names { TellsAside self.old.trail self.new.trail }
         ensures ok { OnOk result (self.new.is_stopped ≡ false) }
         ensures err { OnErr result (self.new.is_stopped ≡ true) }
         ensures faults { N.faults self.old.net ≤ N.faults self.new.net }
@@ -223,9 +230,11 @@ impl<N: Net, P: Picker> Desk<N, P> {
     /// Ends it: farewells are asked of the sessions that were given back (Driver Sessions, endSessions), as far as there is memory
     /// for them; then its pools are closed. A desk that stopped appends nothing to its trail.
     /// Where the net tells, the trail is what that told; and where that is a history of honest members, each command took effect at
-    /// most once, and a write that was answered ok exactly once.
+    /// most once, and a write that was answered ok exactly once. It appends no entry of a command, and the trail tells at most as many
+    /// failed calls as the net counted.
     pub fn finish(self, alloc: Global, moment: u64) -> Finished<N, P>
         ensures wired { N.tells → IsWired self.trail.client (N.history result.net) (facts_of (lists_of result.trail) result.trail.steps) }
+        ensures counted { IsCounted (N.faults result.net) result.trail.steps }
         ensures once { N.tells → EachTakesEffectOnce self.trail.client (facts_of (lists_of result.trail) result.trail.steps) (N.history result.net) }
         ensures legal { IsLegal self.trail.client (lists_of result.trail) result.trail.steps }
         ensures complete { self.is_stopped ≡ false → IsComplete self.trail.client (lists_of result.trail) result.trail.steps }
@@ -233,6 +242,7 @@ impl<N: Net, P: Picker> Desk<N, P> {
             → ArePoolsShut (point_behind self.trail.client (facts_of (lists_of result.trail) result.trail.steps)).state }
         ensures appends { (new : Recorded) × Appends ⊥ (now_of self.last moment) self.trail new
             × (lists_of result.trail ≡ new.lists) × (result.trail.steps ≡ new.steps) }
+        ensures names { Tells NamesNone (facts_of self.trail.lists self.trail.steps) (facts_of (lists_of result.trail) result.trail.steps) }
         ensures settings { result.settings ≡ self.trail.client.settings }
         ensures commands { result.commands ≡ self.trail.client.commands }
         ensures picker { result.picker ≡ self.picker }

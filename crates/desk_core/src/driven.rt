@@ -11,6 +11,7 @@ ghost use Rattle.desk_trail.specs.Facts as fact;
 ghost use Rattle.desk_trail.specs.Legal.{StandsAt};
 ghost use Rattle.desk_trail.specs.Written.{an_entry};
 ghost use Rattle.legal_trail.specs.Recorded.{Adds};
+ghost use Rattle.wired_trail.specs.Faults.{IsUntold};
 ghost use Rattle.wired_trail.specs.Hearing.{TellsHeard, told_of};
 ghost use Rattle.wired_trail.specs.Lines.{IsThere, KeepsOthers};
 ghost use Rattle.desk_core.specs.Driven.{IsKeptIdle, IsStillUsed};
@@ -73,6 +74,7 @@ pub fn tell_end<N: Net>(wired: &mut WiredTrail<N>, moment: u64, at: EndAt, how: 
     requires ran { how ≢ how_as.NoDial }
     requires on { kept_at wired.old.trail.point.state at.host ≡ Some at.stream }
     requires heard { N.tells → TellsHeard (N.history wired.old.net) wired.old.trail moment (fact.CheckEnded at.host how) }
+    requires counted { how ≡ how_as.Fault → IsUntold (N.faults wired.old.net) wired.old.trail.steps }
     ensures adds { Adds an_entry wired.old.trail.lists moment (entry_of.CheckEnded at.host how) (fact.CheckEnded at.host how) wired.old.trail wired.new.trail }
     ensures same { wired.new ≡ record wired.old { trail = wired.new.trail } }
     ensures silent { (sample : ℕ) → how ≡ how_as.Reply sample → (stream : ℕ) → told_of wired.new.trail stream ≡ told_of wired.old.trail stream }
@@ -110,6 +112,7 @@ pub fn drive<N: Net>(
     ensures heard { N.tells → IfOk result (λ r. IfSome r (λ end.
         HearsCheck (N.history wired.new.net) wired.new.trail stream check.entry.hello check.entry.hosts end.how end.event end.time)) }
     ensures cause { IfOk result (λ r. IfSome r (λ end. HasCause (N.faults wired.old.net) (N.faults wired.new.net) (end.how ≡ how_as.Fault))) }
+    ensures counted { IfOk result (λ r. IfSome r (λ end. end.how ≡ how_as.Fault → IsUntold (N.faults wired.new.net) wired.new.trail.steps)) }
 {
     let pulled = wired.turn(alloc, stream, check.hello);
     match result_of(alloc, check, moment, pulled)? {

@@ -5,6 +5,7 @@ ghost use Rattle.desk_trail.specs.Legal.{IsComplete, IsLegal, point_behind};
 ghost use Rattle.desk_trail.specs.States.{ServerState};
 ghost use Rattle.desk_trail.specs.Written.{lists_of};
 ghost use Rattle.legal_trail.specs.Recorded.{Recorded};
+ghost use Rattle.wired_trail.specs.Faults.{IsCounted};
 ghost use Rattle.wired_trail.specs.Wired.{IsWired};
 ghost use Rattle.desk_core.specs.Appends.{AppendsAside};
 ghost use Rattle.desk_core.specs.Ending.{ArePoolsShut};
@@ -103,6 +104,7 @@ impl<N: Net> Core<N> {
             → ArePoolsShut (point_behind self.trail.client (facts_of (lists_of result.parts.trail) result.parts.trail.steps)).state }
         ensures grown { (new : Recorded) × AppendsAside ⊥ moment self.trail new × (lists_of result.parts.trail ≡ new.lists) × (result.parts.trail.steps ≡ new.steps) }
         ensures wired { N.tells → IsWired self.trail.client (N.history result.net) (facts_of (lists_of result.parts.trail) result.parts.trail.steps) }
+        ensures counted { IsCounted (N.faults result.net) result.parts.trail.steps }
         ensures settings { result.parts.settings ≡ self.trail.client.settings }
         ensures commands { result.parts.commands ≡ self.trail.client.commands }
         ensures faults { N.faults self.net ≤ N.faults result.net }

@@ -2,7 +2,7 @@ ghost use Rattle.std.specs.Prelude.{◌≡◌, ◌≤◌, ℕ, OnOk};
 ghost use Rattle.desk_trail.specs.Attempts.{IsToEnter};
 ghost use Rattle.desk_trail.specs.States.{Waits};
 ghost use Rattle.net_link.specs.Causes.{Rose};
-ghost use Rattle.desk_core.specs.Appends.{Appends};
+ghost use Rattle.desk_core.specs.Appends.{AppendsOf, IsOfOp};
 ghost use Rattle.desk_core.specs.Commands.{IsAtWork, MovesOne};
 ghost use Rattle.desk_core.specs.Kept.{IsReady};
 
@@ -29,7 +29,7 @@ impl<N: Net> Core<N> {
         requires chose { IsToEnter host operation.old }
         ensures ok { OnOk result (IsReady self.new moment) }
         ensures moves { OnOk result (MovesOne op operation.new self.old.trail self.new.trail) }
-        ensures appends { Appends (Rose (N.faults self.old.net) (N.faults self.new.net)) moment self.old.trail self.new.trail }
+        ensures appends { AppendsOf (Rose (N.faults self.old.net) (N.faults self.new.net)) (IsOfOp op) moment self.old.trail self.new.trail }
         ensures faults { N.faults self.old.net ≤ N.faults self.new.net }
         ensures waits { OnOk result ((ticket : ℕ) × (operation.new.check_out ≡ Waits host ticket)) }
         ensures next { OnOk result (operation.new.op.next ≡ operation.old.op.next) }

@@ -7,7 +7,7 @@ ghost use Rattle.desk_trail.specs.States.{CommandState};
 ghost use Rattle.sess_step.specs.Choices.{AreIds};
 ghost use Rattle.sess_step.specs.Moves.{IsRepeated};
 ghost use Rattle.trail_laws.specs.Holding.{IsHeldFor};
-ghost use Rattle.desk_core.specs.Appends.{Appends};
+ghost use Rattle.desk_core.specs.Appends.{AppendsOf, IsOfLease, IsOfOp};
 ghost use Rattle.desk_core.specs.Commands.{IsAtWork, MovesLease};
 ghost use Rattle.desk_core.specs.Equips.{KeepsCourse};
 ghost use Rattle.desk_core.specs.Kept.{IsReady};
@@ -68,7 +68,7 @@ impl<N: Net> Core<N> {
         ensures repeated { IfOk result (λ r. r ≡ false → (is_at_choice running.new.op.next ≡ true)
             × IsRepeated sessions.new at.moment running.new (id_of words.first words.second)) }
         ensures kept { KeepsCourse running.old running.new }
-        ensures appends { Appends ⊥ at.moment self.old.trail self.new.trail }
+        ensures appends { AppendsOf ⊥ (IsOfLease at.op (id_of words.first words.second)) at.moment self.old.trail self.new.trail }
         ensures net { self.new.net ≡ self.old.net }
     {
         if running.minutes_needed().is_none() {
@@ -99,7 +99,7 @@ impl<N: Net> Core<N> {
         ensures drew { OnOk result (needs_number running.new ≡ false) }
         ensures minutes { OnOk result (minutes_needed running.new ≡ minutes_needed running.old) }
         ensures kept { KeepsCourse running.old running.new }
-        ensures appends { Appends ⊥ at.moment self.old.trail self.new.trail }
+        ensures appends { AppendsOf ⊥ (IsOfOp at.op) at.moment self.old.trail self.new.trail }
         ensures net { self.new.net ≡ self.old.net }
     {
         let needed = running.needs_number();
@@ -139,7 +139,7 @@ impl<N: Net> Core<N> {
         ensures equipped { IfOk result (λ p. p ≡ progress.Done → IsEquipped operation.new) }
         ensures kept { KeepsCourse operation.old operation.new }
         ensures means { IfOk result (MeansEntry self.old.trail.client self.new.trail.point.state moment (id_of words.first words.second) operation.new) }
-        ensures appends { Appends (Rose (N.faults self.old.net) (N.faults self.new.net)) moment self.old.trail self.new.trail }
+        ensures appends { AppendsOf (Rose (N.faults self.old.net) (N.faults self.new.net)) (IsOfLease op (id_of words.first words.second)) moment self.old.trail self.new.trail }
         ensures faults { N.faults self.old.net ≤ N.faults self.new.net }
         ensures net { self.new.net ≡ self.old.net }
     {

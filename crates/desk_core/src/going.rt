@@ -6,7 +6,7 @@ ghost use Rattle.net_link.specs.Causes.{Rose};
 ghost use Rattle.sess_book.specs.Ids.{id_of};
 ghost use Rattle.write_retry.specs.declared.events.Next.TheVariants as next_of;
 ghost use Rattle.sess_step.specs.Choices.{AreIds};
-ghost use Rattle.desk_core.specs.Appends.{Appends};
+ghost use Rattle.desk_core.specs.Appends.{AppendsOf, IsOfLease, IsOfOp};
 ghost use Rattle.desk_core.specs.Commands.{HasGone, IsAtWork, IsInStep, IsShallow, MovesOne};
 ghost use Rattle.desk_core.specs.Kept.{IsReady};
 ghost use Rattle.desk_core.specs.Steps.{MeansEntry, MeansGoing, MeansPhase};
@@ -34,7 +34,7 @@ impl<N: Net> Core<N> {
         requires step { IsInStep self.old at.moment at.op operation.old sessions.old }
         ensures gone { OnOk result (HasGone self.old self.new at.moment at.op operation.new sessions.new) }
         ensures means { IfOk result (MeansEntry self.old.trail.client self.new.trail.point.state at.moment (id_of words.first words.second) operation.new) }
-        ensures appends { Appends (Rose (N.faults self.old.net) (N.faults self.new.net)) at.moment self.old.trail self.new.trail }
+        ensures appends { AppendsOf (Rose (N.faults self.old.net) (N.faults self.new.net)) (IsOfLease at.op (id_of words.first words.second)) at.moment self.old.trail self.new.trail }
         ensures faults { N.faults self.old.net ≤ N.faults self.new.net }
     {
         let Next::CheckOut { host } = operation.running.next() else {
@@ -61,7 +61,7 @@ impl<N: Net> Core<N> {
         ensures ok { OnOk result (IsReady self.new at.moment) }
         ensures moves { OnOk result (MovesOne at.op operation.new self.old.trail self.new.trail) }
         ensures means { IfOk result (MeansPhase self.old.trail.client self.new.trail.point.state at.moment operation.new) }
-        ensures appends { Appends (Rose (N.faults self.old.net) (N.faults self.new.net)) at.moment self.old.trail self.new.trail }
+        ensures appends { AppendsOf (Rose (N.faults self.old.net) (N.faults self.new.net)) (IsOfOp at.op) at.moment self.old.trail self.new.trail }
         ensures faults { N.faults self.old.net ≤ N.faults self.new.net }
     {
         let CheckOut::Waits { .. } = operation.running.check_out() else {
@@ -81,7 +81,7 @@ impl<N: Net> Core<N> {
         ensures ok { OnOk result (IsReady self.new at.moment) }
         ensures moves { OnOk result (MovesOne at.op operation.new self.old.trail self.new.trail) }
         ensures means { IfOk result (MeansPhase self.old.trail.client self.new.trail.point.state at.moment operation.new) }
-        ensures appends { Appends (Rose (N.faults self.old.net) (N.faults self.new.net)) at.moment self.old.trail self.new.trail }
+        ensures appends { AppendsOf (Rose (N.faults self.old.net) (N.faults self.new.net)) (IsOfOp at.op) at.moment self.old.trail self.new.trail }
         ensures faults { N.faults self.old.net ≤ N.faults self.new.net }
     {
         let CheckOut::Dials { .. } = operation.running.check_out() else {
@@ -101,7 +101,7 @@ impl<N: Net> Core<N> {
         ensures ok { OnOk result (IsReady self.new at.moment) }
         ensures moves { OnOk result (MovesOne at.op operation.new self.old.trail self.new.trail) }
         ensures means { IfOk result (MeansPhase self.old.trail.client self.new.trail.point.state at.moment operation.new) }
-        ensures appends { Appends (Rose (N.faults self.old.net) (N.faults self.new.net)) at.moment self.old.trail self.new.trail }
+        ensures appends { AppendsOf (Rose (N.faults self.old.net) (N.faults self.new.net)) (IsOfOp at.op) at.moment self.old.trail self.new.trail }
         ensures faults { N.faults self.old.net ≤ N.faults self.new.net }
     {
         let answer = self.leave_line(alloc, at, operation)?;
@@ -124,7 +124,7 @@ impl<N: Net> Core<N> {
         requires levels { IsShallow self.old.trail.client at.op }
         ensures ok { OnOk result (IsReady self.new at.moment) }
         ensures moves { OnOk result (MovesOne at.op operation.new self.old.trail self.new.trail) }
-        ensures appends { Appends (Rose (N.faults self.old.net) (N.faults self.new.net)) at.moment self.old.trail self.new.trail }
+        ensures appends { AppendsOf (Rose (N.faults self.old.net) (N.faults self.new.net)) (IsOfOp at.op) at.moment self.old.trail self.new.trail }
         ensures faults { N.faults self.old.net ≤ N.faults self.new.net }
     {
         let Next::Send = operation.running.next() else {
@@ -144,7 +144,7 @@ impl<N: Net> Core<N> {
         ensures ok { OnOk result (IsReady self.new at.moment) }
         ensures moves { OnOk result (MovesOne at.op operation.new self.old.trail self.new.trail) }
         ensures means { IfOk result (MeansPhase self.old.trail.client self.new.trail.point.state at.moment operation.new) }
-        ensures appends { Appends (Rose (N.faults self.old.net) (N.faults self.new.net)) at.moment self.old.trail self.new.trail }
+        ensures appends { AppendsOf (Rose (N.faults self.old.net) (N.faults self.new.net)) (IsOfOp at.op) at.moment self.old.trail self.new.trail }
         ensures faults { N.faults self.old.net ≤ N.faults self.new.net }
     {
         let Next::Read = operation.running.next() else {
@@ -166,7 +166,7 @@ impl<N: Net> Core<N> {
         ensures ok { OnOk result (IsReady self.new at.moment) }
         ensures moves { OnOk result (MovesOne at.op operation.new self.old.trail self.new.trail) }
         ensures means { IfOk result (MeansPhase self.old.trail.client self.new.trail.point.state at.moment operation.new) }
-        ensures appends { Appends (Rose (N.faults self.old.net) (N.faults self.new.net)) at.moment self.old.trail self.new.trail }
+        ensures appends { AppendsOf (Rose (N.faults self.old.net) (N.faults self.new.net)) (IsOfOp at.op) at.moment self.old.trail self.new.trail }
         ensures faults { N.faults self.old.net ≤ N.faults self.new.net }
     {
         self.request(alloc, at, operation)?;
@@ -186,7 +186,7 @@ impl<N: Net> Core<N> {
         ensures ok { OnOk result (IsReady self.new at.moment) }
         ensures moves { OnOk result (MovesOne at.op operation.new self.old.trail self.new.trail) }
         ensures means { IfOk result (MeansPhase self.old.trail.client self.new.trail.point.state at.moment operation.new) }
-        ensures appends { Appends (Rose (N.faults self.old.net) (N.faults self.new.net)) at.moment self.old.trail self.new.trail }
+        ensures appends { AppendsOf (Rose (N.faults self.old.net) (N.faults self.new.net)) (IsOfOp at.op) at.moment self.old.trail self.new.trail }
         ensures faults { N.faults self.old.net ≤ N.faults self.new.net }
     {
         let connected = self.connect(alloc, at, operation)?;
@@ -208,7 +208,7 @@ impl<N: Net> Core<N> {
         ensures gone { OnOk result (HasGone self.old self.new at.moment at.op operation.new sessions.new) }
         ensures sight { (own : Lsid) → IfOk result (λ r. IfSome r (MeansGoing at.moment at.op own self.new.trail)) }
         ensures looks { IfOk result (λ r. IfNone r (operation.new.op.next ≡ next_of.Select)) }
-        ensures appends { Appends (Rose (N.faults self.old.net) (N.faults self.new.net)) at.moment self.old.trail self.new.trail }
+        ensures appends { AppendsOf (Rose (N.faults self.old.net) (N.faults self.new.net)) (IsOfOp at.op) at.moment self.old.trail self.new.trail }
         ensures faults { N.faults self.old.net ≤ N.faults self.new.net }
     {
         match operation.running.next() {
@@ -235,7 +235,7 @@ impl<N: Net> Core<N> {
         requires levels { IsShallow self.old.trail.client at.op }
         ensures gone { OnOk result (HasGone self.old self.new at.moment at.op operation.new sessions.new) }
         ensures means { IfOk result (MeansEntry self.old.trail.client self.new.trail.point.state at.moment (id_of words.first words.second) operation.new) }
-        ensures appends { Appends (Rose (N.faults self.old.net) (N.faults self.new.net)) at.moment self.old.trail self.new.trail }
+        ensures appends { AppendsOf (Rose (N.faults self.old.net) (N.faults self.new.net)) (IsOfLease at.op (id_of words.first words.second)) at.moment self.old.trail self.new.trail }
         ensures faults { N.faults self.old.net ≤ N.faults self.new.net }
     {
         let entered = self.enter_pool(at, operation, sessions, words)?;
@@ -260,7 +260,7 @@ impl<N: Net> Core<N> {
         ensures gone { OnOk result (HasGone self.old self.new at.moment at.op operation.new sessions.new) }
         ensures sight { IfOk result (λ r. IfSome r (MeansGoing at.moment at.op (id_of words.first words.second) self.new.trail)) }
         ensures looks { IfOk result (λ r. IfNone r (operation.new.op.next ≡ next_of.Select)) }
-        ensures appends { Appends (Rose (N.faults self.old.net) (N.faults self.new.net)) at.moment self.old.trail self.new.trail }
+        ensures appends { AppendsOf (Rose (N.faults self.old.net) (N.faults self.new.net)) (IsOfLease at.op (id_of words.first words.second)) at.moment self.old.trail self.new.trail }
         ensures faults { N.faults self.old.net ≤ N.faults self.new.net }
     {
         match self.begin_attempt(alloc, at, operation, sessions, words)? {

@@ -13,7 +13,7 @@ ghost use Rattle.net_link.specs.declared.event.NetEvent.{NetEvent};
 ghost use Rattle.wired_trail.specs.Hearing.{TellsHeard};
 ghost use Rattle.wired_trail.specs.Lines.{IsThere, KeepsOthers};
 ghost use Rattle.wired_trail.specs.Wired.{HasCome};
-ghost use Rattle.desk_core.specs.Appends.{Appends, AppendsAside};
+ghost use Rattle.desk_core.specs.Appends.{AppendsAside, AppendsOf, IsOfOp};
 ghost use Rattle.desk_core.specs.CheckOuts.{IsToOfferLoss, KeepsAddress, heard, news_of};
 ghost use Rattle.desk_core.specs.Commands.{IsAtWork, MovesOne};
 ghost use Rattle.desk_core.specs.Greetings.{IsDialledBy, IsDialledOn};
@@ -184,7 +184,7 @@ impl<N: Net> Core<N> {
         requires came { N.tells → HasComeWith (N.history self.old.net) time }
         ensures ready { IsReady self.new at.moment }
         ensures moves { MovesOne at.op operation.new self.old.trail self.new.trail }
-        ensures appends { Appends ⊥ at.moment self.old.trail self.new.trail }
+        ensures appends { AppendsOf ⊥ (IsOfOp at.op) at.moment self.old.trail self.new.trail }
         ensures faults { N.faults self.old.net ≤ N.faults self.new.net }
     {
         let DialledAt {
@@ -232,7 +232,7 @@ impl<N: Net> Core<N> {
         ensures owes { AtServer self.new.trail.point.state at.dialled.host (IsToOfferLoss self.new at.moment at.dialled.generation why) }
         ensures stays { KeepsAddress at.dialled.host self.old.trail.point.state self.new.trail.point.state }
         ensures moves { MovesOne at.op operation.new self.old.trail self.new.trail }
-        ensures appends { Appends ⊥ at.moment self.old.trail self.new.trail }
+        ensures appends { AppendsOf ⊥ (IsOfOp at.op) at.moment self.old.trail self.new.trail }
         ensures faults { N.faults self.old.net ≤ N.faults self.new.net }
     {
         let DialledAt {
@@ -309,7 +309,7 @@ impl<N: Net> Core<N> {
         ensures ok { OnOk result (IsReady self.new at.moment) }
         ensures done { IfOk result (λ p. p ≡ progress.Done) }
         ensures moves { OnOk result (MovesOne at.op operation.new self.old.trail self.new.trail) }
-        ensures appends { Appends ⊥ at.moment self.old.trail self.new.trail }
+        ensures appends { AppendsOf ⊥ (IsOfOp at.op) at.moment self.old.trail self.new.trail }
         ensures faults { N.faults self.old.net ≤ N.faults self.new.net }
     {
         self.lose_dialled(operation, at, why, time);
@@ -331,7 +331,7 @@ impl<N: Net> Core<N> {
         ensures ok { OnOk result (IsReady self.new moment) }
         ensures moves { OnOk result (MovesOne op operation.new self.old.trail self.new.trail) }
         ensures means { IfOk result (MeansPhase self.old.trail.client self.new.trail.point.state moment operation.new) }
-        ensures appends { Appends (Rose (N.faults self.old.net) (N.faults self.new.net)) moment self.old.trail self.new.trail }
+        ensures appends { AppendsOf (Rose (N.faults self.old.net) (N.faults self.new.net)) (IsOfOp op) moment self.old.trail self.new.trail }
         ensures faults { N.faults self.old.net ≤ N.faults self.new.net }
     {
         // (cannot be: the connection that it dialled is pending, and its stream is in use for it)

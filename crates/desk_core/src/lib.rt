@@ -56,6 +56,7 @@ mod parts;
 mod pools;
 mod progress;
 mod receiving;
+mod reserving;
 mod sending;
 mod shutting;
 mod sight;

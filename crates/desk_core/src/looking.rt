@@ -9,7 +9,7 @@ ghost use Rattle.desk_trail.specs.Looks.{IsLook, deadline, first_look, in_flight
 ghost use Rattle.desk_trail.specs.Written.{with_entry};
 ghost use Rattle.server_look.specs.Inputs.{IsDescribed};
 ghost use Rattle.cmd_step.specs.Looked.{servers_behind};
-ghost use Rattle.desk_core.specs.Appends.{Appends, AppendsAside};
+ghost use Rattle.desk_core.specs.Appends.{AppendsAside, AppendsOf, IsOfLook};
 ghost use Rattle.desk_core.specs.Commands.{IsAtWork, MovesOne};
 ghost use Rattle.desk_core.specs.Kept.{IsReady, IsWriting};
 ghost use Rattle.desk_core.specs.Looks.{HasLooked, IsPicked, StillSelects};
@@ -19,6 +19,7 @@ use crate::Memory;
 use crate::checks::room_for;
 use crate::operation::Operation;
 use crate::progress::Progress;
+use crate::reserving::reserve_beside;
 use crate::state::Core;
 use cmd_step::{Looking, record_look};
 use desk_trail::LookedHow;
@@ -100,7 +101,8 @@ impl<N: Net> Core<N> {
         server_look::look(alloc, input, asking, picker)
     }
 
-    /// The look is appended to the trail, and the command and the servers move by it. Where memory is wanting the desk stops.
+    /// The look is appended to the trail, and the command and the servers move by it. Where memory is wanting the desk stops. By its
+    /// first look there is room for all that the command appends beside its looks.
     fn tell_look(
         &mut self,
         moment: u64,
@@ -120,10 +122,13 @@ impl<N: Net> Core<N> {
             ≡ with_entry self.old.trail.steps moment (entry_of.Looked op words.0 words.1 answer.kept answer.how)) }
         ensures waits { OnOk result (answer.how ≡ how_as.NoneFits → StillSelects self.old.trail.client moment operation.old operation.new) }
         ensures faults { N.faults self.old.net ≤ N.faults self.new.net }
-        ensures appends { Appends ⊥ moment self.old.trail self.new.trail }
+        ensures appends { AppendsOf ⊥ (IsOfLook op words.0 words.1) moment self.old.trail self.new.trail }
     {
         let room = room_for(self.closings, 1, 0)?;
-        self.wired.reserve(room)?;
+        let begun = self.begun.saturating_add(operation.begins());
+        reserve_beside(&mut self.wired, begun, room)?;
+        self.begun = begun;
+        operation.has_begun = true;
         let looking = Looking {
             topology: self.topology.topology(),
             op,
@@ -180,7 +185,7 @@ impl<N: Net> Core<N> {
         ensures looked { IfOk result (HasLooked P.allows P.follows (Rose (N.faults self.old.net) (N.faults self.new.net)) moment op
             looker.entry.words.0 looker.entry.words.1 operation.old self.old.trail self.new.trail picker.old picker.new) }
         ensures faults { N.faults self.old.net ≤ N.faults self.new.net }
-        ensures appends { Appends (Rose (N.faults self.old.net) (N.faults self.new.net)) moment self.old.trail self.new.trail }
+        ensures appends { AppendsOf (Rose (N.faults self.old.net) (N.faults self.new.net)) (IsOfLook op looker.entry.words.0 looker.entry.words.1) moment self.old.trail self.new.trail }
     {
         let until = self.select_until(moment, op, operation);
         self.read_when_late(alloc, moment, until)?;

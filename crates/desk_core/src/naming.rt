@@ -9,6 +9,7 @@ ghost use Rattle.desk_core.specs.Rests.{KeepsChecks};
 ghost use Rattle.desk_core.specs.Servers.{TouchesOnly};
 
 use crate::Memory;
+use crate::reserving::reserve_beside;
 use crate::state::Core;
 use conn_uri::Settings;
 use desk_trail::Room;
@@ -103,7 +104,7 @@ impl<N: Net> Core<N> {
     {
         let (name, server) = newcomer(alloc, self.wired.settings(), moment, host)?;
         let closings = one_more(self.closings)?;
-        self.wired.reserve(A_NAME)?;
+        reserve_beside(&mut self.wired, self.begun, A_NAME)?;
         self.servers.reserve(1)?;
         self.wired.name(moment, name);
         self.servers.push_reserved(server);

@@ -22,6 +22,7 @@ ghost use Rattle.desk_core.specs.Rests.{KeepsChecks};
 ghost use Rattle.desk_core.specs.Servers.{IsUntouched};
 
 use crate::Memory;
+use crate::reserving::reserve_beside;
 use crate::state::Core;
 use desk_trail::{OfferedHow, Room};
 use host_name::Host;
@@ -107,6 +108,18 @@ impl<N: Net> Core<N> {
         }
     }
 
+    /// How many commands have begun, where the event is of a check; 0 of one that a command's attempt makes, for which it has room.
+    fn begun_beside(&self, event: &TopoEvent) -> usize {
+        match event {
+            TopoEvent::Reply { .. }
+            | TopoEvent::Broken {
+                generation: None,
+                ..
+            } => self.begun,
+            TopoEvent::Broken { .. } | TopoEvent::Refused { .. } => 0,
+        }
+    }
+
     /// A reply that is to be offered came on the stream of its server's checks.
     pub fn check_reply(&self, event: &TopoEvent, stream: u64) -> Result<(), Memory>
         requires { self.now.is_stopped ≡ false }
@@ -179,13 +192,14 @@ impl<N: Net> Core<N> {
         let generation = self.generation_of(event.host());
         let asked = self.asked_by(&event);
         let stream = self.check_stream_of(&event);
+        let begun = self.begun_beside(&event);
         let copy = event.copy(alloc)?;
         let taken = self.topology.offer(alloc, copy, generation)?;
         let Some(room) = room_for(self.closings, &taken) else {
             self.stopped = true;
             return Err(AllocError);
         };
-        if let Err(memory) = self.wired.reserve(room) {
+        if let Err(memory) = reserve_beside(&mut self.wired, begun, room) {
             self.stopped = true;
             return Err(memory);
         }

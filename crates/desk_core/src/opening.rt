@@ -108,6 +108,7 @@ impl<N: Net> Core<N> {
             servers: Vec::new(alloc),
             gossip: TimeGossip::new(),
             closings: 0,
+            begun: 0,
             last: moment,
             stopped: false,
         }

@@ -5,11 +5,14 @@ use cmd_build::Command;
 use cmd_state::RunningCommand;
 use std::marker::Model;
 
-/// A command on its way, and the id of the request, of it or of the connection that it dials, whose answer is waited for.
+/// A command on its way; the id of the request, of it or of the connection that it dials, whose answer is waited for; and whether it
+/// has begun.
 #[derive(Drop)]
 pub struct Operation {
     pub running: RunningCommand,
     pub awaited: i32,
+    /// It looked for a server, and there is room for what it appends beside its looks.
+    pub has_begun: bool,
 }
 
 impl Model for Operation {
@@ -28,6 +31,12 @@ impl Operation {
         Operation {
             running: RunningCommand::new(command),
             awaited: 0,
+            has_begun: false,
         }
+    }
+
+    /// How many commands begin by its look: one where it is its first.
+    pub fn begins(&self) -> usize {
+        if self.has_begun { 0 } else { 1 }
     }
 }

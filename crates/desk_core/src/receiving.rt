@@ -14,9 +14,10 @@ ghost use Rattle.desk_trail.specs.Owed.{Owed};
 ghost use Rattle.desk_trail.specs.Owed as owed;
 ghost use Rattle.desk_trail.specs.States.{Nothing};
 ghost use Rattle.desk_trail.specs.Streams.{stream_at};
+ghost use Rattle.wired_trail.specs.Faults.{IsUntold};
 ghost use Rattle.wired_trail.specs.Hearing.{TellsHeard};
 ghost use Rattle.wired_trail.specs.Lines.{IsThere, KeepsOthers};
-ghost use Rattle.desk_core.specs.Appends.{Appends, AppendsAside};
+ghost use Rattle.desk_core.specs.Appends.{AppendsAside, AppendsOf, IsOfOp};
 ghost use Rattle.desk_core.specs.Commands.{IsAtWork, MovesOne};
 ghost use Rattle.desk_core.specs.Hearing.{HasComeWith, HearsAttempt, IsNoReply};
 ghost use Rattle.desk_core.specs.Kept.{IsReady, IsWriting};
@@ -129,6 +130,7 @@ fn hear<N: Net>(
     ensures faults { N.faults wired.old.net ≤ N.faults wired.new.net }
     ensures hears { N.tells → IfOk result (λ r. IfSome r (HearsAttempt (N.history wired.new.net) wired.new.trail stream waiting moment)) }
     ensures cause { IfOk result (λ r. IfSome r (λ e. HasCause (N.faults wired.old.net) (N.faults wired.new.net) (e.end ≡ attempt.Fault))) }
+    ensures counted { IfOk result (λ r. IfSome r (λ e. e.end ≡ attempt.Fault → IsUntold (N.faults wired.new.net) wired.new.trail.steps)) }
 {
     let pulled = wired.turn(alloc, stream, waiting.id);
     attempt_result(alloc, waiting, moment, pulled)
@@ -150,7 +152,7 @@ impl<N: Net> Core<N> {
         ensures moves { OnOk result (MovesOne op operation.new self.old.trail self.new.trail) }
         ensures means { IfOk result (MeansPhase self.old.trail.client self.new.trail.point.state moment operation.new) }
         ensures ended { IfOk result (λ p. p ≡ progress.Done → operation.new.check_out ≡ Nothing) }
-        ensures appends { Appends (Rose (N.faults self.old.net) (N.faults self.new.net)) moment self.old.trail self.new.trail }
+        ensures appends { AppendsOf (Rose (N.faults self.old.net) (N.faults self.new.net)) (IsOfOp op) moment self.old.trail self.new.trail }
         ensures faults { N.faults self.old.net ≤ N.faults self.new.net }
     {
         // (cannot be: the request was queued on the stream of a connection that is lent to the command)
@@ -180,7 +182,7 @@ impl<N: Net> Core<N> {
         ensures moves { OnOk result (MovesOne at.op operation.new self.old.trail self.new.trail) }
         ensures means { IfOk result (MeansPhase self.old.trail.client self.new.trail.point.state at.moment operation.new) }
         ensures ended { IfOk result (λ p. p ≡ progress.Done → operation.new.check_out ≡ Nothing) }
-        ensures appends { Appends (Rose (N.faults self.old.net) (N.faults self.new.net)) at.moment self.old.trail self.new.trail }
+        ensures appends { AppendsOf (Rose (N.faults self.old.net) (N.faults self.new.net)) (IsOfOp at.op) at.moment self.old.trail self.new.trail }
         ensures faults { N.faults self.old.net ≤ N.faults self.new.net }
     {
         let waiting = Waiting {
@@ -214,11 +216,12 @@ impl<N: Net> Core<N> {
         requires replied { ended.time ≢ None → is_replied ended.end ≡ true }
         requires on { stream_at self.old.trail.point.state at.op ≡ Some stream }
         requires heard { N.tells → TellsHeard (N.history self.old.net) self.old.trail at.moment (fact.Ended at.op ended.end) }
+        requires counted { ended.end ≡ attempt.Fault → IsUntold (N.faults self.old.net) self.old.trail.steps }
         requires came { N.tells → HasComeWith (N.history self.old.net) ended.time }
         ensures ok { OnOk result (IsReady self.new at.moment) }
         ensures moves { OnOk result (MovesOne at.op operation.new self.old.trail self.new.trail) }
         ensures free { OnOk result (operation.new.check_out ≡ Nothing) }
-        ensures appends { Appends (FailsBy (N.faults self.old.net) (N.faults self.new.net) ended.end) at.moment self.old.trail self.new.trail }
+        ensures appends { AppendsOf (FailsBy (N.faults self.old.net) (N.faults self.new.net) ended.end) (IsOfOp at.op) at.moment self.old.trail self.new.trail }
         ensures faults { N.faults self.old.net ≤ N.faults self.new.net }
     {
         let LentAt { moment, op, .. } = at;
@@ -247,6 +250,7 @@ impl<N: Net> Core<N> {
         requires ends { IsEnd self.old.trail.client at.moment end operation.old }
         requires on { stream_at self.old.trail.point.state at.op ≡ Some stream }
         requires heard { N.tells → TellsHeard (N.history self.old.net) self.old.trail at.moment (fact.Ended at.op end) }
+        requires counted { end ≡ attempt.Fault → IsUntold (N.faults self.old.net) self.old.trail.steps }
         ensures writing { IfOk result (λ event. IsWriting self.new at.moment 4 (offers event ++ owed.CheckedIn at.op (is_failure end) ∷ [])) }
         ensures lists_none { IfOk result (λ event. IfSome event (λ e. listed_by e ≡ [])) }
         ensures no_reply { IfOk result (λ event. IfSome event IsNoReply) }
@@ -254,7 +258,7 @@ impl<N: Net> Core<N> {
         ensures reply { OnOk result (self.new.trail.point.is_reply ≡ is_replied end) }
         ensures moves { OnOk result (MovesOne at.op operation.new self.old.trail self.new.trail) }
         ensures net { self.new.net ≡ self.old.net }
-        ensures appends { Appends (end ≡ attempt.Fault) at.moment self.old.trail self.new.trail }
+        ensures appends { AppendsOf (end ≡ attempt.Fault) (IsOfOp at.op) at.moment self.old.trail self.new.trail }
     {
         let server = &self.servers[at.lent.host as usize];
         let event = offered_by(alloc, server, at.lent.generation, &end)?;

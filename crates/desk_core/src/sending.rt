@@ -12,7 +12,7 @@ ghost use Rattle.write_retry.specs.declared.events.Next.TheVariants as next_of;
 ghost use Rattle.desk_trail.specs.Owed as owed;
 ghost use Rattle.desk_trail.specs.Requests.{lsid_of as lsid_at};
 ghost use Rattle.wired_trail.specs.Lines.{IsIdle};
-ghost use Rattle.desk_core.specs.Appends.{Appends};
+ghost use Rattle.desk_core.specs.Appends.{AppendsOf, IsOfOp};
 ghost use Rattle.desk_core.specs.Commands.{IsAtWork, MovesOne};
 ghost use Rattle.desk_core.specs.Kept.{IsReady, IsWriting};
 ghost use Rattle.desk_core.specs.Lending.{IsLentTo, IsOnStream};
@@ -83,7 +83,7 @@ impl<N: Net> Core<N> {
         requires levels { (c : Command) → slice_get self.old.trail.client.commands op ≡ Some c → IsWithin 90 c.act }
         ensures ok { OnOk result (IsReady self.new moment) }
         ensures moves { OnOk result (MovesOne op operation.new self.old.trail self.new.trail) }
-        ensures appends { Appends (Rose (N.faults self.old.net) (N.faults self.new.net)) moment self.old.trail self.new.trail }
+        ensures appends { AppendsOf (Rose (N.faults self.old.net) (N.faults self.new.net)) (IsOfOp op) moment self.old.trail self.new.trail }
         ensures faults { N.faults self.old.net ≤ N.faults self.new.net }
     {
         // (cannot be: a connection is lent to a command that is to send, and nothing is unsent on its stream)
@@ -155,7 +155,7 @@ impl<N: Net> Core<N> {
         requires on { IsOnStream self.old.trail.point.state self.old.lines at.lent made.request.stream }
         ensures ok { OnOk result (IsReady self.new at.moment) }
         ensures moves { OnOk result (MovesOne at.op operation.new self.old.trail self.new.trail) }
-        ensures appends { Appends ⊥ at.moment self.old.trail self.new.trail }
+        ensures appends { AppendsOf ⊥ (IsOfOp at.op) at.moment self.old.trail self.new.trail }
         ensures net { self.new.net ≡ self.old.net }
     {
         self.check_free(made.request.stream)?;
@@ -180,7 +180,7 @@ impl<N: Net> Core<N> {
         requires over { IsOver self.old.trail at.op why }
         ensures ok { OnOk result (IsReady self.new at.moment) }
         ensures moves { OnOk result (MovesOne at.op operation.new self.old.trail self.new.trail) }
-        ensures appends { Appends (Rose (N.faults self.old.net) (N.faults self.new.net)) at.moment self.old.trail self.new.trail }
+        ensures appends { AppendsOf (Rose (N.faults self.old.net) (N.faults self.new.net)) (IsOfOp at.op) at.moment self.old.trail self.new.trail }
         ensures faults { N.faults self.old.net ≤ N.faults self.new.net }
     {
         self.write_too_large(operation, at, why)?;
@@ -199,7 +199,7 @@ impl<N: Net> Core<N> {
         requires over { IsOver self.old.trail at.op why }
         ensures writing { OnOk result (IsWriting self.new at.moment 3 (owed.CheckedIn at.op false ∷ [])) }
         ensures moves { OnOk result (MovesOne at.op operation.new self.old.trail self.new.trail) }
-        ensures appends { Appends ⊥ at.moment self.old.trail self.new.trail }
+        ensures appends { AppendsOf ⊥ (IsOfOp at.op) at.moment self.old.trail self.new.trail }
         ensures net { self.new.net ≡ self.old.net }
     {
         let room = room_for(self.closings, 4, 0)?;

@@ -22,6 +22,8 @@ pub struct Core<N: Net> {
     pub servers: Vec<Server>,
     pub gossip: TimeGossip,
     pub closings: usize,
+    /// How many commands looked for a server and are not answered.
+    pub begun: usize,
     pub last: u64,
     pub stopped: bool,
 }

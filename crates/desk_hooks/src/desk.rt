@@ -6,9 +6,10 @@ ghost use Rattle.desk_trail.specs.Facts.{ArePlaced, Fact, facts_of};
 ghost use Rattle.desk_trail.specs.Legal.{IsComplete, IsLegal, point_behind};
 ghost use Rattle.desk_trail.specs.Written.{lists_of};
 ghost use Rattle.legal_trail.specs.Recorded.{Recorded};
+ghost use Rattle.wired_trail.specs.Faults.{IsCounted};
 ghost use Rattle.wired_trail.specs.Wired.{IsWired};
 ghost use Rattle.write_effects.specs.Each.{EachTakesEffectOnce};
-ghost use Rattle.desk_core.specs.Appends.{Appends, AreQuiet};
+ghost use Rattle.desk_core.specs.Appends.{Appends, AreQuiet, NamesNone, Tells, TellsAside, TellsOf};
 ghost use Rattle.desk_core.specs.Due.{IsNext};
 ghost use Rattle.desk_core.specs.Ending.{ArePoolsShut};
 ghost use Rattle.desk_core.specs.Nexts.{IsNextIn};
@@ -136,6 +137,7 @@ impl<N: Net, P: Picker, L: Listener> HookedDesk<N, P, L> {
         ensures value { result.now ≡ self.now.desk.trail.steps }
         ensures wired { N.tells → IsWired self.now.desk.trail.client (N.history self.now.desk.net)
             (facts_of self.now.desk.trail.lists self.now.desk.trail.steps) }
+        ensures counted { IsCounted (N.faults self.now.desk.net) self.now.desk.trail.steps }
         ensures legal { IsLegal self.now.desk.trail.client self.now.desk.trail.lists self.now.desk.trail.steps }
         ensures complete { self.now.desk.is_stopped ≡ false
             → IsComplete self.now.desk.trail.client self.now.desk.trail.lists self.now.desk.trail.steps }
@@ -184,6 +186,7 @@ impl<N: Net, P: Picker, L: Listener> HookedDesk<N, P, L> {
         ensures sight { IfOk result (MeansStep (now_of self.old.desk.last moment) op words self.old.desk.trail self.new.desk.trail) }
         ensures appends { Appends (Rose (N.faults self.old.desk.net) (N.faults self.new.desk.net)) (now_of self.old.desk.last moment)
             self.old.desk.trail self.new.desk.trail }
+        ensures names { TellsOf op words self.old.desk.trail self.new.desk.trail }
         ensures ok { OnOk result (self.new.desk.is_stopped ≡ false) }
         ensures err { OnErr result (self.new.desk.is_stopped ≡ true) }
         ensures faults { N.faults self.old.desk.net ≤ N.faults self.new.desk.net }
@@ -217,6 +220,7 @@ impl<N: Net, P: Picker, L: Listener> HookedDesk<N, P, L> {
             (now_of self.old.desk.last moment) host) }
         ensures appends { Appends (Rose (N.faults self.old.desk.net) (N.faults self.new.desk.net)) (now_of self.old.desk.last moment)
             self.old.desk.trail self.new.desk.trail }
+        ensures names { TellsAside self.old.desk.trail self.new.desk.trail }
         ensures ok { OnOk result (self.new.desk.is_stopped ≡ false) }
         ensures err { OnErr result (self.new.desk.is_stopped ≡ true) }
         ensures faults { N.faults self.old.desk.net ≤ N.faults self.new.desk.net }
@@ -243,6 +247,7 @@ impl<N: Net, P: Picker, L: Listener> HookedDesk<N, P, L> {
     pub fn finish(self, alloc: Global, moment: u64) -> Ended<N, P, L>
         ensures wired { N.tells → IsWired self.desk.trail.client (N.history result.finished.net)
             (facts_of (lists_of result.finished.trail) result.finished.trail.steps) }
+        ensures counted { IsCounted (N.faults result.finished.net) result.finished.trail.steps }
         ensures once { N.tells → EachTakesEffectOnce self.desk.trail.client
             (facts_of (lists_of result.finished.trail) result.finished.trail.steps) (N.history result.finished.net) }
         ensures legal { IsLegal self.desk.trail.client (lists_of result.finished.trail) result.finished.trail.steps }
@@ -253,6 +258,8 @@ impl<N: Net, P: Picker, L: Listener> HookedDesk<N, P, L> {
             (facts_of (lists_of result.finished.trail) result.finished.trail.steps)).state }
         ensures appends { (new : Recorded) × Appends ⊥ (now_of self.desk.last moment) self.desk.trail new
             × (lists_of result.finished.trail ≡ new.lists) × (result.finished.trail.steps ≡ new.steps) }
+        ensures names { Tells NamesNone (facts_of self.desk.trail.lists self.desk.trail.steps)
+            (facts_of (lists_of result.finished.trail) result.finished.trail.steps) }
         ensures settings { result.finished.settings ≡ self.desk.trail.client.settings }
         ensures commands { result.finished.commands ≡ self.desk.trail.client.commands }
         ensures picker { result.finished.picker ≡ self.desk.picker }

@@ -7,6 +7,7 @@ use Rattle.std.proofs.lemmas.List.{append-nil, append_assoc, length-append}
 use Rattle.std.proofs.lemmas.List.Elements.{All-append, All-cons, All-nil}
 use Rattle.bson_doc.specs.declared.ids.Lsid.{Lsid}
 use Rattle.cmd_build.specs.Handshakes.{farewell_document}
+use Rattle.entry_judge.specs.declared.timed.Timed.{Timed}
 use Rattle.desk_trail.specs.declared.entry.Entry.TheVariants as entry
 use Rattle.desk_trail.specs.declared.request.Purpose.{Purpose}
 use Rattle.desk_trail.specs.declared.request.Purpose.TheVariants as purpose
@@ -14,17 +15,17 @@ use Rattle.desk_trail.specs.declared.request.Request.{Request}
 use Rattle.desk_trail.specs.declared.step.Step.{Step}
 use Rattle.desk_trail.specs.Attempts.{CommandAllows, asked_by, asked_event, commands_after}
 use Rattle.desk_trail.specs.Clients.{Client}
-use Rattle.desk_trail.specs.Facts.{Lists}
+use Rattle.desk_trail.specs.Facts.{Fact, Lists, facts_of}
 use Rattle.desk_trail.specs.Facts as fact
 use Rattle.desk_trail.specs.Legal.{InTime, MayGoOn, Point, StandsAt, client_after}
 use Rattle.desk_trail.specs.Owed.{InTurn, MayAsk}
 use Rattle.desk_trail.specs.Requests.{IsFarewell, IsFor, IsMessageOf, farewell_by, id_at}
 use Rattle.desk_trail.specs.States.{ClientState}
 use Rattle.desk_trail.specs.Written.{a_request, step_of}
-use Rattle.legal_trail.specs.Recorded.{Adds, Recorded}
+use Rattle.legal_trail.specs.Recorded.{Adds, Recorded, told_in}
 use Rattle.wired_trail.specs.Lines.{Lines}
 use Rattle.end_sessions.specs.Carriers.{IsToAsk}
-use Rattle.end_sessions.specs.Farewells.{AsksFarewells, MayCarry, asks}
+use Rattle.end_sessions.specs.Farewells.{AsksFarewell, AsksFarewells, MayCarry, asks}
 
 -- ---- It may stand
 
@@ -104,6 +105,9 @@ AsksFarewells-same moment old new client lists steps point counted paid time =
       steps = steps ∙ sym (append-nil old.steps);
       moments = All-nil (λ (s : Step). s.moment ≡ moment);
       each = All-nil (λ (s : Step). asks s.entry ≡ true);
+      told = [];
+      tells = ap (λ (l : Lists). facts_of l new.steps) lists ∙ ap (λ (ss : List Step). facts_of old.lists ss) steps ∙ sym (append-nil (told_in old));
+      farewells = All-nil (λ (t : Timed Fact). AsksFarewell t.what);
       state = state ∙ sym (ap (with_end old.point.state) state);
       counted = ap (λ (w : ClientState). w.requests) state ∙ counted ∙ sym (ap (λ l. length l.requests) lists);
       paid = ap (λ (p : Point). p.owed) point ∙ paid;
@@ -128,6 +132,10 @@ AsksFarewells-one moment place r old new adds is_for counted paid =
       steps = adds.steps_now;
       moments = All-cons (λ (s : Step). s.moment ≡ moment) (step_of moment (entry.Asked place)) [] refl (All-nil (λ (s : Step). s.moment ≡ moment));
       each = All-cons (λ (s : Step). asks s.entry ≡ true) (step_of moment (entry.Asked place)) [] refl (All-nil (λ (s : Step). asks s.entry ≡ true));
+      told = record { at = moment; what = fact.Asked place r } ∷ [];
+      tells = adds.told_now;
+      farewells = All-cons (λ (t : Timed Fact). AsksFarewell t.what) (record { at = moment; what = fact.Asked place r }) [] is_for
+          (All-nil (λ (t : Timed Fact). AsksFarewell t.what));
       state = state ∙ sym (ap (with_end old.point.state) state);
       counted = ap (λ (w : ClientState). w.requests) state ∙ ap (λ n. n + 1) counted
           ∙ sym (ap (λ l. length l.requests) adds.lists_now ∙ length-append old.lists.requests (r ∷ []));
@@ -146,6 +154,9 @@ AsksFarewells-trans moment old between new a b = record {
   steps = b.steps ∙ ap (λ l. l ++ b.added) a.steps ∙ append_assoc old.steps a.added b.added;
   moments = All-append (λ (s : Step). s.moment ≡ moment) a.added b.added a.moments b.moments;
   each = All-append (λ (s : Step). asks s.entry ≡ true) a.added b.added a.each b.each;
+  told = a.told ++ b.told;
+  tells = b.tells ∙ ap (λ l. l ++ b.told) a.tells ∙ append_assoc (told_in old) a.told b.told;
+  farewells = All-append (λ (t : Timed Fact). AsksFarewell t.what) a.told b.told a.farewells b.farewells;
   state = b.state ∙ ap (λ (w : ClientState). with_end w new.point.state) a.state;
   counted = b.counted;
   paid = b.paid;

@@ -11,14 +11,17 @@ use Rattle.pool_book.specs.declared.connections.Available.{Available}
 use Rattle.server_pick.specs.Candidates.{suitable}
 use Rattle.server_pick.specs.declared.criteria.Criteria.{Criteria}
 use Rattle.sess_book.specs.Ending.{IsParted, kept_ids}
+use Rattle.entry_judge.specs.declared.timed.Timed.{Timed}
 use Rattle.desk_trail.specs.declared.entry.Entry.{Entry}
 use Rattle.desk_trail.specs.declared.entry.Entry.TheVariants as entry
 use Rattle.desk_trail.specs.declared.request.Purpose.TheVariants as purpose
 use Rattle.desk_trail.specs.declared.request.Request.{Request}
 use Rattle.desk_trail.specs.declared.step.Step.{Step}
+use Rattle.desk_trail.specs.Facts.{Fact}
+use Rattle.desk_trail.specs.Facts as fact
 use Rattle.desk_trail.specs.Requests.{IsPrimaryPreferred}
 use Rattle.desk_trail.specs.States.{ClientState, ServerState, stream_of}
-use Rattle.legal_trail.specs.Recorded.{Recorded}
+use Rattle.legal_trail.specs.Recorded.{Recorded, told_in}
 use Rattle.wired_trail.specs.Lines.{IsIdle, Lines}
 
 -- A read that prefers the primary may go to the server of that address (Server Selection, primaryPreferred).
@@ -52,6 +55,11 @@ abbrev pub asks : Entry → Bool
 asks (entry.Asked place) = true
 asks e = false
 
+-- What it tells is that a farewell was queued.
+abbrev pub AsksFarewell : Fact → Type 0
+AsksFarewell (fact.Asked place request) = request.purpose ≡ purpose.Farewell
+AsksFarewell f = ⊥
+
 -- Only farewells were asked, all at that moment: what the trail had stands there still, and of the client nothing changed but how many
 -- requests it queued, which streams carry a farewell, and that it ends.
 pub record AsksFarewells (moment : ℕ) (old new : Recorded) : Type 0 where
@@ -63,6 +71,9 @@ pub record AsksFarewells (moment : ℕ) (old new : Recorded) : Type 0 where
   pub steps : new.steps ≡ old.steps ++ added
   pub moments : All (λ (s : Step). s.moment ≡ moment) added
   pub each : All (λ (s : Step). asks s.entry ≡ true) added
+  pub told : List (Timed Fact)
+  pub tells : told_in new ≡ told_in old ++ told
+  pub farewells : All (λ (t : Timed Fact). AsksFarewell t.what) told
   pub state : new.point.state
       ≡ record old.point.state { requests = new.point.state.requests; is_ending = new.point.state.is_ending; farewells = new.point.state.farewells }
   pub counted : new.point.state.requests ≡ length new.lists.requests

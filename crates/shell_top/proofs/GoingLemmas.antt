@@ -14,7 +14,8 @@ use Rattle.desk_trail.specs.Facts.{Fact, facts_of}
 use Rattle.desk_trail.specs.Legal.{IsComplete, IsLegal, point_behind}
 use Rattle.desk_trail.specs.Written.{lists_of}
 use Rattle.legal_trail.specs.Recorded.{Recorded}
-use Rattle.desk_core.specs.Appends.{Appends, AreQuiet, tell_fault, tells_fault}
+use Rattle.wired_trail.specs.Faults.{IsCounted, tells_fault}
+use Rattle.desk_core.specs.Appends.{Appends, AreQuiet, tell_fault}
 use Rattle.desk_core.specs.Ending.{ArePoolsShut}
 use Rattle.desk_core.specs.declared.finished.Finished.{Finished}
 use Rattle.desk_core.specs.State.{Desk, now_of}
@@ -175,16 +176,17 @@ never-told false h = refl
 
 pub ends-so : {N P : Type 0} (shows : ℕ → Type 0) (faults : N → ℕ) (fits : Client → List (Timed Fact) → Type 0) (moment : ℕ) (d : Desk N P) (f : Finished N P) (new : Recorded) → shows moment →
     Appends ⊥ (now_of d.last moment) d.trail new → f.trail.steps ≡ new.steps → f.settings ≡ d.trail.client.settings → faults d.net ≤ faults f.net →
-    IsLegal d.trail.client (lists_of f.trail) f.trail.steps → fits d.trail.client (facts_of (lists_of f.trail) f.trail.steps) →
+    IsCounted (faults f.net) f.trail.steps → IsLegal d.trail.client (lists_of f.trail) f.trail.steps → fits d.trail.client (facts_of (lists_of f.trail) f.trail.steps) →
     (d.is_stopped ≡ false → IsComplete d.trail.client (lists_of f.trail) f.trail.steps) →
     (d.is_stopped ≡ false → ArePoolsShut (point_behind d.trail.client (facts_of (lists_of f.trail) f.trail.steps)).state) → Ends shows faults fits d f
-ends-so shows faults fits moment d f new seen appends steps settings later legal of_net complete shut = record {
+ends-so shows faults fits moment d f new seen appends steps settings later counted legal of_net complete shut = record {
   settings = settings;
   added = appends.added;
   steps = steps ∙ appends.steps;
   moments = λ h. shown-all shows (now_of d.last moment) appends.added (shown-now shows d.last moment h seen) appends.moments;
   faultless = never-told (tell_fault appends.added) appends.faults;
   later = later;
+  counted = counted;
   legal = legal;
   of_net = of_net;
   complete = complete;

@@ -47,6 +47,7 @@ did law shows faults fits first last end s begins goes ends runs answered = reco
   later = omega (arith, goes.later, ends.later);
   told = λ e. rose-later (faults first.net) (faults last.net) (faults end.net) (goes.told (middle (tell_fault first.trail.steps) (tell_fault goes.added) (tell_fault ends.added)
       (sym parts ∙ ap tell_fault (sym steps) ∙ e) begins.faultless ends.faultless)) ends.later;
+  counted = ends.counted;
 }
   where
     steps : end.trail.steps ≡ (first.trail.steps ++ goes.added) ++ ends.added

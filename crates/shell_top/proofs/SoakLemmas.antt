@@ -34,6 +34,7 @@ did-of shows faults fits fits_too old new client s trail too d = record {
   moments = d.moments;
   later = d.later;
   told = d.told;
+  counted = d.counted;
 }
 
 -- A hall tells.

@@ -7,6 +7,7 @@ use Rattle.desk_trail.specs.Clients.{Client}
 use Rattle.desk_trail.specs.Facts.{Fact, facts_of}
 use Rattle.desk_trail.specs.Legal.{IsComplete, IsLegal, point_behind}
 use Rattle.desk_trail.specs.Written.{lists_of}
+use Rattle.wired_trail.specs.Faults.{IsCounted}
 use Rattle.trail_tally.specs.Tallies.{AreTallies, answer_of}
 use Rattle.trail_tally.specs.declared.tally.Tally.{Tally}
 use Rattle.desk_core.specs.Appends.{tell_fault}
@@ -50,6 +51,7 @@ pub record Ends {N P : Type 0} (shows : ℕ → Type 0) (faults : N → ℕ) (fi
   pub moments : IsShown shows d.last → AreShown shows added
   pub faultless : tell_fault added ≡ false
   pub later : faults d.net ≤ faults f.net
+  pub counted : IsCounted (faults f.net) f.trail.steps
   pub legal : IsLegal d.trail.client (lists_of f.trail) f.trail.steps
   pub of_net : fits d.trail.client (facts_of (lists_of f.trail) f.trail.steps)
   pub complete : d.is_stopped ≡ false → IsComplete d.trail.client (lists_of f.trail) f.trail.steps

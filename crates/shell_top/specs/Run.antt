@@ -20,6 +20,7 @@ use Rattle.desk_core.specs.Appends.{tell_fault}
 use Rattle.desk_core.specs.Ending.{ArePoolsShut}
 use Rattle.shell_top.specs.Going.{AreShown, IsShown}
 use Rattle.shell_top.specs.Report.{is_ok_tally, report}
+use Rattle.wired_trail.specs.Faults.{IsCounted}
 use Rattle.wired_trail.specs.Wired.{IsWired}
 use Rattle.write_effects.specs.Each.{EachTakesEffectOnce}
 use Rattle.trail_tally.specs.Tallies.{AreAnswered, tallies_of}
@@ -106,7 +107,7 @@ pub record IsOfNet (history : List NetEvent) (client : Client) (told : List (Tim
 -- the laws of legal trails. Where every command was run it is complete (`complete`), each pool is closed (`shut`), and each command was
 -- answered (`answered`). It fits what the net told (`of_net`, by the test `fits`). Its moments
 -- are the clock's (`began`, `moments`). It tells a failed call of the net only where the net's count of faults rose (`told`), which never
--- falls (`later`).
+-- falls (`later`), and at most as many as the net counted (`counted`).
 pub record Did {A : Type 0} (shows : ℕ → Type 0) (faults : A → ℕ) (fits : Client → List (Timed Fact) → Type 0) (old new : A) (client : Client) (s : Status) (trail : Trail) : Type 0 where
   pub began : IsShown shows client.began
   pub legal : IsLegal client (lists_of trail) trail.steps
@@ -117,6 +118,7 @@ pub record Did {A : Type 0} (shows : ℕ → Type 0) (faults : A → ℕ) (fits 
   pub moments : AreShown shows trail.steps
   pub later : faults old ≤ faults new
   pub told : tell_fault trail.steps ≡ true → Rose (faults old) (faults new)
+  pub counted : IsCounted (faults new) trail.steps
 
 -- ---- The report
 

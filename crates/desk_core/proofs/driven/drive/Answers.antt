@@ -3,6 +3,7 @@ use Rattle.desk_core.specs.Driven.{IsKeptIdle}
 use Rattle.desk_core.specs.Ends.{IsEndBy}
 use Rattle.net_link.specs.Seen.{Seen, seen}
 use Rattle.wired_trail.specs.Hearing.{Heard, told_of}
+use Rattle.wired_trail.proofs.FaultLemmas.{untold-later}
 use Rattle.desk_wire.specs.declared.answers.Pulled.TheVariants as pulled
 use Rattle.desk_core.proofs.CheckLemmas.{IsKeptIdle-whole, IsWhole-reply}
 use Rattle.desk_core.proofs.driven.drive.Goals as goal
@@ -31,3 +32,11 @@ returns-in-Some-clause-heard g c = λ tells.
       says = search rules;
       carries = search rules;
     }
+
+pub returns-in-Some-clause-counted : goal.returns-in-Some-clause-counted
+returns-in-Some-clause-counted g c = λ fault.
+    let by : IsEndBy c.args.check.host.now c.args.check.began c.args.check.limit c.args.moment c.turn-pulled.result c.in-Some.end.event c.in-Some.end.how = search rules in
+    let failed = (subst (IsEndBy c.args.check.host.now c.args.check.began c.args.check.limit c.args.moment c.turn-pulled.result c.in-Some.end.event) fault by).1 in
+    rw (c.close_behind.ensures.trail)
+    (untold-later (g.N.Net.faults c.turn-pulled.new.self.net) (g.N.Net.faults c.close_behind.new.wired.net) c.turn-pulled.new.self.trail.steps c.close_behind.ensures.faults
+    (c.turn-pulled.ensures.counted failed))

@@ -1,6 +1,7 @@
 use Rattle.std.proofs.Common.{◌≡◌, Some, refl, subst, arith}
 use Rattle.desk_trail.specs.Facts as fact
 use Rattle.wired_trail.specs.Hearing.{IsPlain, SpeaksOf, TellsHeard}
+use Rattle.desk_core.proofs.DriveLemmas.{fault-ended}
 use Rattle.desk_core.proofs.HeardLemmas.{check-plain, check-speaks}
 use Rattle.desk_core.proofs.driven.tell_end.Goals as goal
 
@@ -49,3 +50,6 @@ returns-then-keeps_stream-clause-silent g c = λ sample e s. c.append.ensures.si
 
 pub returns-else-keeps_stream-clause-silent : goal.returns-else-keeps_stream-clause-silent
 returns-else-keeps_stream-clause-silent g c = λ sample e s. absurd (c.keeps_stream.ensures.no c.if-keeps_stream.false sample e)
+
+pub tell-requires-clause-counted : goal.tell-requires-clause-counted
+tell-requires-clause-counted g c = λ tells. c.requires.counted (fault-ended c.args.at.host c.args.how c.requires.ran tells)

@@ -6,7 +6,7 @@ pub returns-clause-ends : goal.returns-clause-ends
 returns-clause-ends g c =
     let done = c.finish-finished.ensures in
     ends-so g.C.Clock.shows g.N.Net.faults _ c.now.result c.args.desk c.finish-finished.result done.appends.0 c.now.ensures done.appends.1 done.appends.3 done.settings done.faults
-    done.legal (λ tells. record { wired = done.wired tells; once = done.once tells }) done.complete done.shut
+    done.counted done.legal (λ tells. record { wired = done.wired tells; once = done.once tells }) done.complete done.shut
 
 pub returns-clause-told : goal.returns-clause-told
 returns-clause-told g c =

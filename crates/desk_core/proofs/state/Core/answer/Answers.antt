@@ -8,7 +8,7 @@ use Rattle.desk_trail.specs.Written.{IsAtLeast}
 use Rattle.legal_trail.specs.Recorded.{Recorded}
 use Rattle.trail_laws.specs.Holding.{IsHeldFor}
 use Rattle.sess_step.specs.declared.command_at.CommandAt.{CommandAt}
-use Rattle.desk_core.proofs.AppendsLemmas.{Appends-room}
+use Rattle.desk_core.proofs.AppendsLemmas.{grown-still}
 use Rattle.desk_core.proofs.KeptLemmas.{IsKept-room}
 use Rattle.desk_core.proofs.LeaseLemmas.{HasFinished-reserved, HoldsSo-out, IsKept-finished, IsKept-returned, MovesLease-returned, MovesLease-room, point-reserved}
 use Rattle.desk_core.proofs.state.Core.answer.Goals as goal
@@ -21,7 +21,7 @@ invariant_of-self g c =
 pub returns-in_err-reserve-clause-appends : goal.returns-in_err-reserve-clause-appends
 returns-in_err-reserve-clause-appends g c =
     rw (← c.self.view_is)
-    (Appends-room c.args.moment c.self.inside.wired.trail c.reserve.new.self.trail c.reserve.new.self.trail.room (ap (λ s. s.trail) c.reserve.ensures.same)).appends
+    (grown-still c.args.moment c.self.inside.wired.trail c.reserve.new.self.trail c.reserve.new.self.trail.room (ap (λ s. s.trail) c.reserve.ensures.same))
 
 pub invariant_of-self-then-is_none : goal.invariant_of-self-then-is_none
 invariant_of-self-then-is_none g c =

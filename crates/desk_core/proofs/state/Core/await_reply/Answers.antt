@@ -4,6 +4,8 @@ use Rattle.desk_core.specs.Receiving.{IsHeard}
 use Rattle.desk_core.specs.Steps.{for_reply}
 use Rattle.cmd_reply.specs.declared.attempt.AttemptResult.{AttemptResult}
 use Rattle.desk_trail.specs.Streams.{stream_at}
+use Rattle.write_retry.specs.declared.attempt_end.AttemptEnd.TheVariants as attempt
+use Rattle.wired_trail.specs.Faults.{IsUntold}
 use Rattle.desk_core.specs.Hearing.{HearsAttempt}
 use Rattle.std.specs.Prelude.{Option}
 use Rattle.cmd_reply.specs.declared.waiting.Waiting.{Waiting}
@@ -102,3 +104,9 @@ end_behind-requires-clause-came g c = λ tells.
     let heard =
     subst (λ (o : Option AttemptResult). IfSome o (HearsAttempt (g.N.Net.history c.hear.new.wired.net) c.hear.new.wired.trail c.args.stream waiting c.args.at.moment)) c.in-Some.is (c.in_ok-came.ensures.hears tells) in
     (attempt-heard (g.N.Net.history c.hear.new.wired.net) c.hear.new.wired.trail c.args.stream c.args.at.op waiting c.args.at.moment c.in-Some.ended heard has).1
+
+pub end_behind-requires-clause-counted : goal.end_behind-requires-clause-counted
+end_behind-requires-clause-counted g c =
+    subst
+    (λ (o : Option AttemptResult). IfSome o (λ e. e.end ≡ attempt.Fault → IsUntold (g.N.Net.faults c.hear.new.wired.net) c.hear.new.wired.trail.steps))
+    c.in-Some.is c.in_ok-came.ensures.counted

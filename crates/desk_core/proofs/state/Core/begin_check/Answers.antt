@@ -61,3 +61,6 @@ end_undialled-requires-clause-due g c =
 
 pub end_undialled-requires-clause-untold : goal.end_undialled-requires-clause-untold
 end_undialled-requires-clause-untold g c = λ tells. c.dial_check.ensures.untold tells (search rules)
+
+pub end_undialled-requires-clause-counted : goal.end_undialled-requires-clause-counted
+end_undialled-requires-clause-counted g c = c.dial_check.ensures.counted (search rules)

@@ -28,13 +28,13 @@ use Rattle.desk_core.proofs.state.Core.begin_on.Goals as goal
 
 pub invariant_of-self : goal.invariant_of-self
 invariant_of-self g c =
-    IsKept-room c.self.inside.wired c.reserve.new.self c.self.inside.topology.topology c.self.inside.servers.items c.self.inside.gossip c.self.inside.closings c.self.inside.last c.self.inside.stopped
-    c.reserve.ensures.same c.reserve.ensures.kept c.self.invariant
+    IsKept-room c.self.inside.wired c.reserve_beside.new.wired c.self.inside.topology.topology c.self.inside.servers.items c.self.inside.gossip c.self.inside.closings c.self.inside.last c.self.inside.stopped
+    c.reserve_beside.ensures.same c.reserve_beside.ensures.kept c.self.invariant
 
-pub returns-in_err-reserve-clause-appends : goal.returns-in_err-reserve-clause-appends
-returns-in_err-reserve-clause-appends g c =
+pub returns-in_err-reserve_beside-clause-appends : goal.returns-in_err-reserve_beside-clause-appends
+returns-in_err-reserve_beside-clause-appends g c =
     rw (← c.self.view_is)
-    (Appends-room c.args.moment c.self.inside.wired.trail c.reserve.new.self.trail c.reserve.new.self.trail.room (ap (λ s. s.trail) c.reserve.ensures.same))
+    (Appends-room c.args.moment c.self.inside.wired.trail c.reserve_beside.new.wired.trail c.reserve_beside.new.wired.trail.room (ap (λ s. s.trail) c.reserve_beside.ensures.same))
 
 pub append-requires-clause-stands : goal.append-requires-clause-stands
 append-requires-clause-stands g c =
@@ -42,13 +42,13 @@ append-requires-clause-stands g c =
     let rest = c.requires.begins.0 in
     let due = rw (← c.self.view_is) at c.requires.due in
     let h = c.self.invariant.leads ready.runs in
-    let point : c.reserve.new.self.trail.point ≡ c.self.inside.wired.trail.point = ap (λ s. s.trail.point) c.reserve.ensures.same in
-    let ahead : c.reserve.new.self.trail.point.moment ≡ c.self.inside.wired.trail.point.moment = ap (λ (p : Point). p.moment) point in
+    let point : c.reserve_beside.new.wired.trail.point ≡ c.self.inside.wired.trail.point = ap (λ s. s.trail.point) c.reserve_beside.ensures.same in
+    let ahead : c.reserve_beside.new.wired.trail.point.moment ≡ c.self.inside.wired.trail.point.moment = ap (λ (p : Point). p.moment) point in
     let moment = h.moment in
     let now = ready.now in (
       fact.CheckBegan c.args.host c.args.stream,
       refl,
-      StandsAt-began c.reserve.new.self.trail.client c.reserve.new.self.trail.point c.args.moment c.args.host c.args.stream rest
+      StandsAt-began c.reserve_beside.new.wired.trail.client c.reserve_beside.new.wired.trail.point c.args.moment c.args.host c.args.stream rest
           (subst (λ (p : Point). MayBegin p c.args.moment c.args.host rest) (sym point) ready.turn) (omega arith)
           (ap (λ (p : Point). p.state.is_ending) point ∙ ap (λ (s : ClientState). s.is_ending) h.state)
           (subst (λ (p : Point). AtServer p.state c.args.host (λ s. IsDue c.args.moment s × IsCheckStream p.state s.check_stream c.args.stream)) (sym point)
@@ -57,8 +57,8 @@ append-requires-clause-stands g c =
 
 pub ask-requires-clause-room : goal.ask-requires-clause-room
 ask-requires-clause-room g c =
-    let more : IsAtLeast (record { names = 0; events = 0; sessions = 0; requests = 1; steps = c.self.inside.closings + 2 }) c.reserve.new.self.trail.room =
-    subst (λ (m : Room). IsAtLeast m c.reserve.new.self.trail.room) c.in_ok-room.ensures c.in_ok-reserve.ensures.room in
+    let more : IsAtLeast (record { names = 0; events = 0; sessions = 0; requests = 1; steps = c.self.inside.closings + 2 }) c.reserve_beside.new.wired.trail.room =
+    subst (λ (m : Room). IsAtLeast m c.reserve_beside.new.wired.trail.room) c.in_ok-room.ensures c.in_ok-reserve_beside.ensures.room in
     let u = (c.append.ensures.adds (fact.CheckBegan c.args.host c.args.stream) refl).room_used in
     let steps = more.steps in
     let requests = more.requests in
@@ -72,8 +72,8 @@ ask-requires-clause-stands g c =
     let rest = c.requires.begins.0 in
     let due = rw (← c.self.view_is) at c.requires.due in
     let h = c.self.invariant.leads ready.runs in
-    let r : Recorded = c.reserve.new.self.trail in
-    let same = c.reserve.ensures.same in
+    let r : Recorded = c.reserve_beside.new.wired.trail in
+    let same = c.reserve_beside.ensures.same in
     let point : r.point ≡ c.self.inside.wired.trail.point = ap (λ s. s.trail.point) same in
     let adds = c.append.ensures.adds (fact.CheckBegan c.args.host c.args.stream) refl in
     let b : IsBegun r c.append.new.self.trail c.args.moment c.args.host c.args.stream rest due.0 =
@@ -129,24 +129,24 @@ invariant_of-self-2 g c =
     let due = rw (← c.self.view_is) at c.requires.due in
     let line = rw (← c.self.view_is) at c.requires.line in
     let h = c.self.invariant.leads ready.runs in
-    let r : Recorded = c.reserve.new.self.trail in
-    let same = c.reserve.ensures.same in
+    let r : Recorded = c.reserve_beside.new.wired.trail in
+    let same = c.reserve_beside.ensures.same in
     let kept =
-    IsKept-room c.self.inside.wired c.reserve.new.self c.self.inside.topology.topology c.self.inside.servers.items c.self.inside.gossip c.self.inside.closings c.self.inside.last c.self.inside.stopped
-    same c.reserve.ensures.kept c.self.invariant in
+    IsKept-room c.self.inside.wired c.reserve_beside.new.wired c.self.inside.topology.topology c.self.inside.servers.items c.self.inside.gossip c.self.inside.closings c.self.inside.last c.self.inside.stopped
+    same c.reserve_beside.ensures.kept c.self.invariant in
     let there : slice_get c.self.inside.servers.items c.args.host ≡ Some due.0 = ap (λ (s : ClientState). slice_get s.servers c.args.host) (sym h.state) ∙ due.1 in
     let is : c.index_mut-server.result.now ≡ due.0 =
     read-there c.self.inside.servers.items c.args.host due.0 c.index_mut-server.result.now there c.index_mut-server.ensures.value in
     let adds = c.append.ensures.adds (fact.CheckBegan c.args.host c.args.stream) refl in
     let hello = c.in_ok-request.ensures.hello in
     let q = c.in_ok-request.request in
-    let lines : c.append.new.self.lines ≡ c.reserve.new.self.lines = ap (λ s. s.lines) c.append.ensures.same in
-    let line_there : line_at c.reserve.new.self.lines c.args.stream ≡ Some line.0 = ap (λ s. line_at s.lines c.args.stream) same ∙ line.1 in
+    let lines : c.append.new.self.lines ≡ c.reserve_beside.new.wired.lines = ap (λ s. s.lines) c.append.ensures.same in
+    let line_there : line_at c.reserve_beside.new.wired.lines c.args.stream ≡ Some line.0 = ap (λ s. line_at s.lines c.args.stream) same ∙ line.1 in
     let now_there : line_at c.ask.new.self.lines c.args.stream ≡ Some (with_unsent q.bytes line.0) =
     ap (line_at c.ask.new.self.lines) (sym hello.on) ∙ c.ask.ensures.queued
     ∙ ap (λ x. option_map (with_unsent q.bytes) (line_at c.append.new.self.lines x)) hello.on
     ∙ ap (λ l. option_map (with_unsent q.bytes) (line_at l c.args.stream)) lines ∙ ap (option_map (with_unsent q.bytes)) line_there in
-    let others : KeepsOthers c.args.stream c.reserve.new.self.lines c.ask.new.self.lines =
+    let others : KeepsOthers c.args.stream c.reserve_beside.new.wired.lines c.ask.new.self.lines =
     λ other n. c.ask.ensures.others other (λ (e : other ≡ q.stream). n (e ∙ hello.on)) ∙ ap (λ l. line_at l other) lines in
     let both : Begins r c.append.new.self.trail c.ask.new.self.trail c.args.moment c.args.host c.args.stream = record {
       place = length c.append.new.self.trail.lists.requests;
@@ -158,11 +158,11 @@ invariant_of-self-2 g c =
       asked = c.ask.ensures.adds;
     } in
     let more : IsAtLeast (record { names = 0; events = 0; sessions = 0; requests = 1; steps = c.self.inside.closings + 2 }) r.room =
-    subst (λ (m : Room). IsAtLeast m r.room) c.in_ok-room.ensures c.in_ok-reserve.ensures.room in
+    subst (λ (m : Room). IsAtLeast m r.room) c.in_ok-room.ensures c.in_ok-reserve_beside.ensures.room in
     let steps = more.steps in
     let used_first = adds.room_used.steps in
     let used_then = c.ask.ensures.adds.room_used.steps in
-    IsKept-begun r c.append.new.self.trail c.ask.new.self.trail c.reserve.new.self.lines c.ask.new.self.lines c.self.inside.topology.topology c.self.inside.servers.items c.self.inside.gossip
+    IsKept-begun r c.append.new.self.trail c.ask.new.self.trail c.reserve_beside.new.wired.lines c.ask.new.self.lines c.self.inside.topology.topology c.self.inside.servers.items c.self.inside.gossip
     c.self.inside.closings c.self.inside.last c.args.moment c.args.host c.args.stream c.self.inside.stopped due.0 c.begin_check.new.self line.0 (with_unsent q.bytes line.0) both there
     due.2.0.stays line_there line.2 now_there line.2 others ready.now (omega arith) (c.begin_check.ensures.begins ∙ ap (check_begins c.args.moment c.args.stream) is) kept
 
@@ -170,14 +170,14 @@ pub returns-clause-ok : goal.returns-clause-ok
 returns-clause-ok g c = λ rest begins.
     let ready = rw (← c.self.view_is) at begins in
     let due = rw (← c.self.view_is) at c.requires.due in
-    let r : Recorded = c.reserve.new.self.trail in
-    let point : r.point ≡ c.self.inside.wired.trail.point = ap (λ s. s.trail.point) c.reserve.ensures.same in
+    let r : Recorded = c.reserve_beside.new.wired.trail in
+    let point : r.point ≡ c.self.inside.wired.trail.point = ap (λ s. s.trail.point) c.reserve_beside.ensures.same in
     let adds = c.append.ensures.adds (fact.CheckBegan c.args.host c.args.stream) refl in
     let b : IsBegun r c.append.new.self.trail c.args.moment c.args.host c.args.stream rest due.0 =
     IsBegun-by r c.append.new.self.trail c.args.moment c.args.host c.args.stream rest due.0 (entry_of.CheckBegan c.args.host c.args.stream) adds
     (ap (λ (p : Point). slice_get p.state.servers c.args.host) point ∙ due.1) (subst (λ (p : Point). MayBegin p c.args.moment c.args.host rest) (sym point) ready.turn) in
     let more : IsAtLeast (record { names = 0; events = 0; sessions = 0; requests = 1; steps = c.self.inside.closings + 2 }) r.room =
-    subst (λ (m : Room). IsAtLeast m r.room) c.in_ok-room.ensures c.in_ok-reserve.ensures.room in
+    subst (λ (m : Room). IsAtLeast m r.room) c.in_ok-room.ensures c.in_ok-reserve_beside.ensures.room in
     let steps = more.steps in
     let used_first = adds.room_used.steps in
     let used_then = c.ask.ensures.adds.room_used.steps in
@@ -192,12 +192,12 @@ returns-clause-ok g c = λ rest begins.
 pub returns-clause-appends : goal.returns-clause-appends
 returns-clause-appends g c =
     let old : Recorded = c.self.inside.wired.trail in
-    let r : Recorded = c.reserve.new.self.trail in
+    let r : Recorded = c.reserve_beside.new.wired.trail in
     let between : Recorded = c.append.new.self.trail in
     let new : Recorded = c.ask.new.self.trail in
     let q = c.in_ok-request.request in
     rw (← c.self.view_is)
-    (Appends-trans c.args.moment old r new (Appends-room c.args.moment old r r.room (ap (λ s. s.trail) c.reserve.ensures.same))
+    (Appends-trans c.args.moment old r new (Appends-room c.args.moment old r r.room (ap (λ s. s.trail) c.reserve_beside.ensures.same))
     (Appends-trans c.args.moment r between new
     (Appends-adds an_entry r.lists c.args.moment (entry_of.CheckBegan c.args.host c.args.stream) (fact.CheckBegan c.args.host c.args.stream) r between (AreLonger-refl r.lists)
     (c.append.ensures.adds (fact.CheckBegan c.args.host c.args.stream) refl) (λ e. absurd (cc)) (kept-by_begin r.client c.args.moment r.point.state c.args.host c.args.stream))
@@ -211,24 +211,24 @@ returns-clause-begins g c =
     let due = rw (← c.self.view_is) at c.requires.due in
     let line = rw (← c.self.view_is) at c.requires.line in
     let h = c.self.invariant.leads ready.runs in
-    let r : Recorded = c.reserve.new.self.trail in
-    let same = c.reserve.ensures.same in
+    let r : Recorded = c.reserve_beside.new.wired.trail in
+    let same = c.reserve_beside.ensures.same in
     let kept =
-    IsKept-room c.self.inside.wired c.reserve.new.self c.self.inside.topology.topology c.self.inside.servers.items c.self.inside.gossip c.self.inside.closings c.self.inside.last c.self.inside.stopped
-    same c.reserve.ensures.kept c.self.invariant in
+    IsKept-room c.self.inside.wired c.reserve_beside.new.wired c.self.inside.topology.topology c.self.inside.servers.items c.self.inside.gossip c.self.inside.closings c.self.inside.last c.self.inside.stopped
+    same c.reserve_beside.ensures.kept c.self.invariant in
     let there : slice_get c.self.inside.servers.items c.args.host ≡ Some due.0 = ap (λ (s : ClientState). slice_get s.servers c.args.host) (sym h.state) ∙ due.1 in
     let is : c.index_mut-server.result.now ≡ due.0 =
     read-there c.self.inside.servers.items c.args.host due.0 c.index_mut-server.result.now there c.index_mut-server.ensures.value in
     let adds = c.append.ensures.adds (fact.CheckBegan c.args.host c.args.stream) refl in
     let hello = c.in_ok-request.ensures.hello in
     let q = c.in_ok-request.request in
-    let lines : c.append.new.self.lines ≡ c.reserve.new.self.lines = ap (λ s. s.lines) c.append.ensures.same in
-    let line_there : line_at c.reserve.new.self.lines c.args.stream ≡ Some line.0 = ap (λ s. line_at s.lines c.args.stream) same ∙ line.1 in
+    let lines : c.append.new.self.lines ≡ c.reserve_beside.new.wired.lines = ap (λ s. s.lines) c.append.ensures.same in
+    let line_there : line_at c.reserve_beside.new.wired.lines c.args.stream ≡ Some line.0 = ap (λ s. line_at s.lines c.args.stream) same ∙ line.1 in
     let now_there : line_at c.ask.new.self.lines c.args.stream ≡ Some (with_unsent q.bytes line.0) =
     ap (line_at c.ask.new.self.lines) (sym hello.on) ∙ c.ask.ensures.queued
     ∙ ap (λ x. option_map (with_unsent q.bytes) (line_at c.append.new.self.lines x)) hello.on
     ∙ ap (λ l. option_map (with_unsent q.bytes) (line_at l c.args.stream)) lines ∙ ap (option_map (with_unsent q.bytes)) line_there in
-    let others : KeepsOthers c.args.stream c.reserve.new.self.lines c.ask.new.self.lines =
+    let others : KeepsOthers c.args.stream c.reserve_beside.new.wired.lines c.ask.new.self.lines =
     λ other n. c.ask.ensures.others other (λ (e : other ≡ q.stream). n (e ∙ hello.on)) ∙ ap (λ l. line_at l other) lines in
     let both : Begins r c.append.new.self.trail c.ask.new.self.trail c.args.moment c.args.host c.args.stream = record {
       place = length c.append.new.self.trail.lists.requests;
@@ -240,18 +240,18 @@ returns-clause-begins g c =
       asked = c.ask.ensures.adds;
     } in
     let more : IsAtLeast (record { names = 0; events = 0; sessions = 0; requests = 1; steps = c.self.inside.closings + 2 }) r.room =
-    subst (λ (m : Room). IsAtLeast m r.room) c.in_ok-room.ensures c.in_ok-reserve.ensures.room in
+    subst (λ (m : Room). IsAtLeast m r.room) c.in_ok-room.ensures c.in_ok-reserve_beside.ensures.room in
     let steps = more.steps in
     let used_first = adds.room_used.steps in
     let used_then = c.ask.ensures.adds.room_used.steps in
     let now =
-    IsKept-begun r c.append.new.self.trail c.ask.new.self.trail c.reserve.new.self.lines c.ask.new.self.lines c.self.inside.topology.topology c.self.inside.servers.items c.self.inside.gossip
+    IsKept-begun r c.append.new.self.trail c.ask.new.self.trail c.reserve_beside.new.wired.lines c.ask.new.self.lines c.self.inside.topology.topology c.self.inside.servers.items c.self.inside.gossip
     c.self.inside.closings c.self.inside.last c.args.moment c.args.host c.args.stream c.self.inside.stopped due.0 c.begin_check.new.self line.0 (with_unsent q.bytes line.0) both there
     due.2.0.stays line_there line.2 now_there line.2 others ready.now (omega arith) (c.begin_check.ensures.begins ∙ ap (check_begins c.args.moment c.args.stream) is) kept in
     let point : r.point ≡ c.self.inside.wired.trail.point = ap (λ s. s.trail.point) same in
     rw (← c.self.view_is)
     (subst (λ (p : Point). HasBegun p.state c.ask.new.self.trail.point.state c.args.host) point
-    (HasBegun-led r c.ask.new.self.trail c.reserve.new.self.lines c.ask.new.self.lines c.self.inside.topology.topology c.self.inside.servers.items c.self.inside.gossip c.self.inside.last
+    (HasBegun-led r c.ask.new.self.trail c.reserve_beside.new.wired.lines c.ask.new.self.lines c.self.inside.topology.topology c.self.inside.servers.items c.self.inside.gossip c.self.inside.last
     c.args.moment c.args.host c.args.stream due.0 c.begin_check.new.self (kept.leads ready.runs) (now.leads ready.runs) there
     (c.begin_check.ensures.begins ∙ ap (check_begins c.args.moment c.args.stream) is) due.2.0.stays))
 
@@ -260,11 +260,11 @@ append-requires-clause-plain g c = λ told is.
     let line = rw (← c.self.view_is) at c.requires.line in
     let same : fact.CheckBegan c.args.host c.args.stream ≡ told = cc in
     let there : IsThere c.self.inside.wired.lines c.args.stream = record { line = line.0; there = line.1 } in
-    subst (IsPlain c.reserve.new.self.lines) same (subst (λ l. IsThere l c.args.stream) (sym (ap (λ s. s.lines) c.reserve.ensures.same)) there)
+    subst (IsPlain c.reserve_beside.new.wired.lines) same (subst (λ l. IsThere l c.args.stream) (sym (ap (λ s. s.lines) c.reserve_beside.ensures.same)) there)
 
 pub ask-requires-clause-free : goal.ask-requires-clause-free
 ask-requires-clause-free g c = λ tells.
     let before = rw (← c.self.view_is) at (c.in_ok-check_free.ensures.free tells) in
-    let free : (told_of c.reserve.new.self.trail c.args.stream).last ≡ None =
-    subst (λ (t : Recorded). (told_of t c.args.stream).last ≡ None) (sym (ap (λ s. s.trail) c.reserve.ensures.same)) before in
+    let free : (told_of c.reserve_beside.new.wired.trail c.args.stream).last ≡ None =
+    subst (λ (t : Recorded). (told_of t c.args.stream).last ≡ None) (sym (ap (λ s. s.trail) c.reserve_beside.ensures.same)) before in
     subst (λ s. (told_of c.append.new.self.trail s).last ≡ None) (sym c.in_ok-request.ensures.hello.on) (ap (λ (a : Account). a.last) (c.append.ensures.silent c.args.stream) ∙ free)

@@ -4,9 +4,15 @@ use Rattle.std.proofs.lemmas.Option.{slice_get_read}
 use Rattle.cmd_step.specs.declared.got.Answer.{Answer}
 use Rattle.cmd_step.specs.declared.got.Answer.TheVariants as answer
 use Rattle.desk_core.specs.CheckOuts.{IsBehindAnswer}
+use Rattle.desk_core.proofs.AppendsLemmas.{grown-plain, grown-weaken}
 use Rattle.desk_core.proofs.AnswerLemmas.{Appends-ahead, Appends-behind, IsWaiting-line, broken-at}
 use Rattle.desk_core.proofs.ComesLemmas.{there-by}
 use Rattle.desk_core.proofs.state.Core.check_out.Goals as goal
+
+pub returns-in_err-sweep_at-clause-appends : goal.returns-in_err-sweep_at-clause-appends
+returns-in_err-sweep_at-clause-appends g c =
+    grown-weaken c.args.moment c.args.self.now.trail c.sweep_at.new.self.trail (λ e. absurd e)
+    (grown-plain c.args.moment c.args.op c.args.self.now.trail c.sweep_at.new.self.trail c.sweep_at.ensures.appends)
 
 pub returns-in_err-check_out_at-clause-appends : goal.returns-in_err-check_out_at-clause-appends
 returns-in_err-check_out_at-clause-appends g c =

@@ -16,7 +16,7 @@ use Rattle.cmd_step.specs.declared.got.Answer.{Answer}
 use Rattle.cmd_step.specs.declared.got.Answer.TheVariants as answer
 use Rattle.cmd_step.specs.declared.place.At.{At}
 use Rattle.desk_core.proofs.AnswerLemmas.{Appends-told, Came-answer, IsBehindAnswer-by, IsInLine-by, IsMoved-answer, check-lines-answer, time-answer}
-use Rattle.desk_core.proofs.AppendsLemmas.{Appends-room, grown-same, grown-trans}
+use Rattle.desk_core.proofs.AppendsLemmas.{grown-same, grown-still, grown-trans}
 use Rattle.desk_core.proofs.ComesLemmas.{AreAt-work, IsKept-comes, KeepsAddress-comes, MovesOne-moved, closing-less, closing-within, read-at}
 use Rattle.desk_core.proofs.DropLemmas.{read-there}
 use Rattle.desk_core.proofs.KeptLemmas.{IsKept-room}
@@ -31,7 +31,7 @@ invariant_of-self g c =
 pub returns-in_err-reserve-clause-appends : goal.returns-in_err-reserve-clause-appends
 returns-in_err-reserve-clause-appends g c =
     rw (← c.self.view_is)
-    (Appends-room c.args.moment c.self.inside.wired.trail c.reserve.new.self.trail c.reserve.new.self.trail.room (ap (λ s. s.trail) c.reserve.ensures.same)).appends
+    (grown-still c.args.moment c.self.inside.wired.trail c.reserve.new.self.trail c.reserve.new.self.trail.room (ap (λ s. s.trail) c.reserve.ensures.same))
 
 pub index_mut-server-requires : goal.index_mut-server-requires
 index_mut-server-requires g c =

@@ -9,7 +9,7 @@ use Rattle.desk_trail.specs.States.{ClientState}
 use Rattle.desk_trail.specs.Written.{IsAtLeast, an_entry}
 use Rattle.legal_trail.specs.Recorded.{Recorded}
 use Rattle.trail_laws.specs.Holding.{IsHeldFor}
-use Rattle.desk_core.proofs.AppendsLemmas.{Appends-room}
+use Rattle.desk_core.proofs.AppendsLemmas.{grown-still}
 use Rattle.desk_core.proofs.BesideLemmas.{GoesBeside-entry}
 use Rattle.desk_core.proofs.KeptLemmas.{IsKept-room}
 use Rattle.desk_core.proofs.LeaseLemmas.{HoldsSo-undrawn, IsKept-apart, MovesLease-none, point-reserved}
@@ -27,7 +27,7 @@ invariant_of-self g c =
 pub returns-in_err-reserve-clause-appends : goal.returns-in_err-reserve-clause-appends
 returns-in_err-reserve-clause-appends g c =
     rw (← c.self.view_is)
-    (Appends-room c.args.at.moment c.self.inside.wired.trail c.reserve.new.self.trail c.reserve.new.self.trail.room (ap (λ s. s.trail) c.reserve.ensures.same)).appends
+    (grown-still c.args.at.moment c.self.inside.wired.trail c.reserve.new.self.trail c.reserve.new.self.trail.room (ap (λ s. s.trail) c.reserve.ensures.same))
 
 pub draw-requires-clause-undrawn : goal.draw-requires-clause-undrawn
 draw-requires-clause-undrawn g c =

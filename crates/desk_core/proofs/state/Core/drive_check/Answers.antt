@@ -33,24 +33,24 @@ returns-in_err-room-clause-appends g c =
 
 pub invariant_of-self : goal.invariant_of-self
 invariant_of-self g c =
-    IsKept-room c.self.inside.wired c.reserve.new.self c.self.inside.topology.topology c.self.inside.servers.items c.self.inside.gossip c.self.inside.closings c.self.inside.last c.self.inside.stopped c.reserve.ensures.same c.reserve.ensures.kept c.self.invariant
+    IsKept-room c.self.inside.wired c.reserve_beside.new.wired c.self.inside.topology.topology c.self.inside.servers.items c.self.inside.gossip c.self.inside.closings c.self.inside.last c.self.inside.stopped c.reserve_beside.ensures.same c.reserve_beside.ensures.kept c.self.invariant
 
-pub returns-in_err-reserve-clause-appends : goal.returns-in_err-reserve-clause-appends
-returns-in_err-reserve-clause-appends g c =
+pub returns-in_err-reserve_beside-clause-appends : goal.returns-in_err-reserve_beside-clause-appends
+returns-in_err-reserve_beside-clause-appends g c =
     rw (← c.self.view_is)
-    (Appends-room c.args.moment c.self.inside.wired.trail c.reserve.new.self.trail c.reserve.new.self.trail.room (ap (λ s. s.trail) c.reserve.ensures.same))
+    (Appends-room c.args.moment c.self.inside.wired.trail c.reserve_beside.new.wired.trail c.reserve_beside.new.wired.trail.room (ap (λ s. s.trail) c.reserve_beside.ensures.same))
 
 pub index-server-requires : goal.index-server-requires
 index-server-requires g c =
     let ready = rw (← c.self.view_is) at c.requires.ready in
     let runs = rw (← c.self.view_is) at c.requires.runs in
-    let r : Recorded = c.reserve.new.self.trail in
-    let same = c.reserve.ensures.same in
+    let r : Recorded = c.reserve_beside.new.wired.trail in
+    let same = c.reserve_beside.ensures.same in
     let point : r.point ≡ c.self.inside.wired.trail.point = ap (λ s. s.trail.point) same in
-    let kept : IsKept r c.reserve.new.self.lines c.self.inside.topology.topology c.self.inside.servers.items c.self.inside.gossip c.self.inside.closings c.self.inside.last c.self.inside.stopped =
-    IsKept-room c.self.inside.wired c.reserve.new.self c.self.inside.topology.topology c.self.inside.servers.items c.self.inside.gossip c.self.inside.closings c.self.inside.last c.self.inside.stopped same c.reserve.ensures.kept c.self.invariant in
-    let running : IsRunning r c.reserve.new.self.lines c.self.inside.servers.items c.args.host =
-    IsRunning-of r c.reserve.new.self.lines c.self.inside.topology.topology c.self.inside.servers.items c.self.inside.gossip c.self.inside.closings c.self.inside.last c.self.inside.stopped c.args.host kept ready.runs
+    let kept : IsKept r c.reserve_beside.new.wired.lines c.self.inside.topology.topology c.self.inside.servers.items c.self.inside.gossip c.self.inside.closings c.self.inside.last c.self.inside.stopped =
+    IsKept-room c.self.inside.wired c.reserve_beside.new.wired c.self.inside.topology.topology c.self.inside.servers.items c.self.inside.gossip c.self.inside.closings c.self.inside.last c.self.inside.stopped same c.reserve_beside.ensures.kept c.self.invariant in
+    let running : IsRunning r c.reserve_beside.new.wired.lines c.self.inside.servers.items c.args.host =
+    IsRunning-of r c.reserve_beside.new.wired.lines c.self.inside.topology.topology c.self.inside.servers.items c.self.inside.gossip c.self.inside.closings c.self.inside.last c.self.inside.stopped c.args.host kept ready.runs
     (subst (λ (p : Point). AtServer p.state c.args.host (λ s. (began : ℕ) × Runs began s)) (sym point) runs) in
     let within = slice_get_within c.self.inside.servers.items c.args.host running.server running.there in
     omega (arith, c.self.inside.servers.ok)
@@ -59,13 +59,13 @@ pub began-requires : goal.began-requires
 began-requires g c =
     let ready = rw (← c.self.view_is) at c.requires.ready in
     let runs = rw (← c.self.view_is) at c.requires.runs in
-    let r : Recorded = c.reserve.new.self.trail in
-    let same = c.reserve.ensures.same in
+    let r : Recorded = c.reserve_beside.new.wired.trail in
+    let same = c.reserve_beside.ensures.same in
     let point : r.point ≡ c.self.inside.wired.trail.point = ap (λ s. s.trail.point) same in
-    let kept : IsKept r c.reserve.new.self.lines c.self.inside.topology.topology c.self.inside.servers.items c.self.inside.gossip c.self.inside.closings c.self.inside.last c.self.inside.stopped =
-    IsKept-room c.self.inside.wired c.reserve.new.self c.self.inside.topology.topology c.self.inside.servers.items c.self.inside.gossip c.self.inside.closings c.self.inside.last c.self.inside.stopped same c.reserve.ensures.kept c.self.invariant in
-    let running : IsRunning r c.reserve.new.self.lines c.self.inside.servers.items c.args.host =
-    IsRunning-of r c.reserve.new.self.lines c.self.inside.topology.topology c.self.inside.servers.items c.self.inside.gossip c.self.inside.closings c.self.inside.last c.self.inside.stopped c.args.host kept ready.runs
+    let kept : IsKept r c.reserve_beside.new.wired.lines c.self.inside.topology.topology c.self.inside.servers.items c.self.inside.gossip c.self.inside.closings c.self.inside.last c.self.inside.stopped =
+    IsKept-room c.self.inside.wired c.reserve_beside.new.wired c.self.inside.topology.topology c.self.inside.servers.items c.self.inside.gossip c.self.inside.closings c.self.inside.last c.self.inside.stopped same c.reserve_beside.ensures.kept c.self.invariant in
+    let running : IsRunning r c.reserve_beside.new.wired.lines c.self.inside.servers.items c.args.host =
+    IsRunning-of r c.reserve_beside.new.wired.lines c.self.inside.topology.topology c.self.inside.servers.items c.self.inside.gossip c.self.inside.closings c.self.inside.last c.self.inside.stopped c.args.host kept ready.runs
     (subst (λ (p : Point). AtServer p.state c.args.host (λ s. (began : ℕ) × Runs began s)) (sym point) runs) in
     let is : c.index-server.result.now ≡ running.server =
     read-there c.self.inside.servers.items c.args.host running.server c.index-server.result.now running.there c.index-server.ensures in
@@ -75,13 +75,13 @@ pub unreachable-requires : goal.unreachable-requires
 unreachable-requires g c =
     let ready = rw (← c.self.view_is) at c.requires.ready in
     let runs = rw (← c.self.view_is) at c.requires.runs in
-    let r : Recorded = c.reserve.new.self.trail in
-    let same = c.reserve.ensures.same in
+    let r : Recorded = c.reserve_beside.new.wired.trail in
+    let same = c.reserve_beside.ensures.same in
     let point : r.point ≡ c.self.inside.wired.trail.point = ap (λ s. s.trail.point) same in
-    let kept : IsKept r c.reserve.new.self.lines c.self.inside.topology.topology c.self.inside.servers.items c.self.inside.gossip c.self.inside.closings c.self.inside.last c.self.inside.stopped =
-    IsKept-room c.self.inside.wired c.reserve.new.self c.self.inside.topology.topology c.self.inside.servers.items c.self.inside.gossip c.self.inside.closings c.self.inside.last c.self.inside.stopped same c.reserve.ensures.kept c.self.invariant in
-    let running : IsRunning r c.reserve.new.self.lines c.self.inside.servers.items c.args.host =
-    IsRunning-of r c.reserve.new.self.lines c.self.inside.topology.topology c.self.inside.servers.items c.self.inside.gossip c.self.inside.closings c.self.inside.last c.self.inside.stopped c.args.host kept ready.runs
+    let kept : IsKept r c.reserve_beside.new.wired.lines c.self.inside.topology.topology c.self.inside.servers.items c.self.inside.gossip c.self.inside.closings c.self.inside.last c.self.inside.stopped =
+    IsKept-room c.self.inside.wired c.reserve_beside.new.wired c.self.inside.topology.topology c.self.inside.servers.items c.self.inside.gossip c.self.inside.closings c.self.inside.last c.self.inside.stopped same c.reserve_beside.ensures.kept c.self.invariant in
+    let running : IsRunning r c.reserve_beside.new.wired.lines c.self.inside.servers.items c.args.host =
+    IsRunning-of r c.reserve_beside.new.wired.lines c.self.inside.topology.topology c.self.inside.servers.items c.self.inside.gossip c.self.inside.closings c.self.inside.last c.self.inside.stopped c.args.host kept ready.runs
     (subst (λ (p : Point). AtServer p.state c.args.host (λ s. (began : ℕ) × Runs began s)) (sym point) runs) in
     let is : c.index-server.result.now ≡ running.server =
     read-there c.self.inside.servers.items c.args.host running.server c.index-server.result.now running.there c.index-server.ensures in
@@ -96,16 +96,16 @@ pub drive-requires-clause-there : goal.drive-requires-clause-there
 drive-requires-clause-there g c =
     let ready = rw (← c.self.view_is) at c.requires.ready in
     let runs = rw (← c.self.view_is) at c.requires.runs in
-    let r : Recorded = c.reserve.new.self.trail in
-    let same = c.reserve.ensures.same in
+    let r : Recorded = c.reserve_beside.new.wired.trail in
+    let same = c.reserve_beside.ensures.same in
     let point : r.point ≡ c.self.inside.wired.trail.point = ap (λ s. s.trail.point) same in
-    let kept : IsKept r c.reserve.new.self.lines c.self.inside.topology.topology c.self.inside.servers.items c.self.inside.gossip c.self.inside.closings c.self.inside.last c.self.inside.stopped =
-    IsKept-room c.self.inside.wired c.reserve.new.self c.self.inside.topology.topology c.self.inside.servers.items c.self.inside.gossip c.self.inside.closings c.self.inside.last c.self.inside.stopped same c.reserve.ensures.kept c.self.invariant in
-    let running : IsRunning r c.reserve.new.self.lines c.self.inside.servers.items c.args.host =
-    IsRunning-of r c.reserve.new.self.lines c.self.inside.topology.topology c.self.inside.servers.items c.self.inside.gossip c.self.inside.closings c.self.inside.last c.self.inside.stopped c.args.host kept ready.runs
+    let kept : IsKept r c.reserve_beside.new.wired.lines c.self.inside.topology.topology c.self.inside.servers.items c.self.inside.gossip c.self.inside.closings c.self.inside.last c.self.inside.stopped =
+    IsKept-room c.self.inside.wired c.reserve_beside.new.wired c.self.inside.topology.topology c.self.inside.servers.items c.self.inside.gossip c.self.inside.closings c.self.inside.last c.self.inside.stopped same c.reserve_beside.ensures.kept c.self.invariant in
+    let running : IsRunning r c.reserve_beside.new.wired.lines c.self.inside.servers.items c.args.host =
+    IsRunning-of r c.reserve_beside.new.wired.lines c.self.inside.topology.topology c.self.inside.servers.items c.self.inside.gossip c.self.inside.closings c.self.inside.last c.self.inside.stopped c.args.host kept ready.runs
     (subst (λ (p : Point). AtServer p.state c.args.host (λ s. (began : ℕ) × Runs began s)) (sym point) runs) in
-    let d : IsDriven r c.reserve.new.self.lines c.self.inside.servers.items c.args.host c.in-Some-Some.stream c.in-Some-Some.began =
-    IsDriven-of r c.reserve.new.self.lines c.self.inside.servers.items c.args.host c.in-Some-Some.stream c.in-Some-Some.began c.index-server.result.now running c.index-server.ensures
+    let d : IsDriven r c.reserve_beside.new.wired.lines c.self.inside.servers.items c.args.host c.in-Some-Some.stream c.in-Some-Some.began =
+    IsDriven-of r c.reserve_beside.new.wired.lines c.self.inside.servers.items c.args.host c.in-Some-Some.stream c.in-Some-Some.began c.index-server.result.now running c.index-server.ensures
     (sym c.check_stream.ensures.stream ∙ c.in-Some-Some.is-0) (sym c.began.ensures.value ∙ c.in-Some-Some.is-1) in
     record { line = d.line; there = d.line_there }
 
@@ -113,30 +113,30 @@ pub invariant_of-self-in-Ok-None : goal.invariant_of-self-in-Ok-None
 invariant_of-self-in-Ok-None g c =
     let ready = rw (← c.self.view_is) at c.requires.ready in
     let runs = rw (← c.self.view_is) at c.requires.runs in
-    let r : Recorded = c.reserve.new.self.trail in
-    let same = c.reserve.ensures.same in
+    let r : Recorded = c.reserve_beside.new.wired.trail in
+    let same = c.reserve_beside.ensures.same in
     let point : r.point ≡ c.self.inside.wired.trail.point = ap (λ s. s.trail.point) same in
-    let kept : IsKept r c.reserve.new.self.lines c.self.inside.topology.topology c.self.inside.servers.items c.self.inside.gossip c.self.inside.closings c.self.inside.last c.self.inside.stopped =
-    IsKept-room c.self.inside.wired c.reserve.new.self c.self.inside.topology.topology c.self.inside.servers.items c.self.inside.gossip c.self.inside.closings c.self.inside.last c.self.inside.stopped same c.reserve.ensures.kept c.self.invariant in
-    let running : IsRunning r c.reserve.new.self.lines c.self.inside.servers.items c.args.host =
-    IsRunning-of r c.reserve.new.self.lines c.self.inside.topology.topology c.self.inside.servers.items c.self.inside.gossip c.self.inside.closings c.self.inside.last c.self.inside.stopped c.args.host kept ready.runs
+    let kept : IsKept r c.reserve_beside.new.wired.lines c.self.inside.topology.topology c.self.inside.servers.items c.self.inside.gossip c.self.inside.closings c.self.inside.last c.self.inside.stopped =
+    IsKept-room c.self.inside.wired c.reserve_beside.new.wired c.self.inside.topology.topology c.self.inside.servers.items c.self.inside.gossip c.self.inside.closings c.self.inside.last c.self.inside.stopped same c.reserve_beside.ensures.kept c.self.invariant in
+    let running : IsRunning r c.reserve_beside.new.wired.lines c.self.inside.servers.items c.args.host =
+    IsRunning-of r c.reserve_beside.new.wired.lines c.self.inside.topology.topology c.self.inside.servers.items c.self.inside.gossip c.self.inside.closings c.self.inside.last c.self.inside.stopped c.args.host kept ready.runs
     (subst (λ (p : Point). AtServer p.state c.args.host (λ s. (began : ℕ) × Runs began s)) (sym point) runs) in
-    let d : IsDriven r c.reserve.new.self.lines c.self.inside.servers.items c.args.host c.in-Some-Some.stream c.in-Some-Some.began =
-    IsDriven-of r c.reserve.new.self.lines c.self.inside.servers.items c.args.host c.in-Some-Some.stream c.in-Some-Some.began c.index-server.result.now running c.index-server.ensures
+    let d : IsDriven r c.reserve_beside.new.wired.lines c.self.inside.servers.items c.args.host c.in-Some-Some.stream c.in-Some-Some.began =
+    IsDriven-of r c.reserve_beside.new.wired.lines c.self.inside.servers.items c.args.host c.in-Some-Some.stream c.in-Some-Some.began c.index-server.result.now running c.index-server.ensures
     (sym c.check_stream.ensures.stream ∙ c.in-Some-Some.is-0) (sym c.began.ensures.value ∙ c.in-Some-Some.is-1) in
-    IsKept-still r c.drive.new.wired.trail c.reserve.new.self.lines c.drive.new.wired.lines c.self.inside.topology.topology c.self.inside.servers.items c.self.inside.gossip c.self.inside.closings c.self.inside.last c.args.host c.in-Some-Some.stream c.in-Some-Some.began c.self.inside.stopped d c.drive.ensures.trail c.drive.ensures.others (rw c.in-Ok-None.field-0-is at c.in-Ok-None.ensures.waits) kept
+    IsKept-still r c.drive.new.wired.trail c.reserve_beside.new.wired.lines c.drive.new.wired.lines c.self.inside.topology.topology c.self.inside.servers.items c.self.inside.gossip c.self.inside.closings c.self.inside.last c.args.host c.in-Some-Some.stream c.in-Some-Some.began c.self.inside.stopped d c.drive.ensures.trail c.drive.ensures.others (rw c.in-Ok-None.field-0-is at c.in-Ok-None.ensures.waits) kept
 
 pub index-requires : goal.index-requires
 index-requires g c =
     let ready = rw (← c.self.view_is) at c.requires.ready in
     let runs = rw (← c.self.view_is) at c.requires.runs in
-    let r : Recorded = c.reserve.new.self.trail in
-    let same = c.reserve.ensures.same in
+    let r : Recorded = c.reserve_beside.new.wired.trail in
+    let same = c.reserve_beside.ensures.same in
     let point : r.point ≡ c.self.inside.wired.trail.point = ap (λ s. s.trail.point) same in
-    let kept : IsKept r c.reserve.new.self.lines c.self.inside.topology.topology c.self.inside.servers.items c.self.inside.gossip c.self.inside.closings c.self.inside.last c.self.inside.stopped =
-    IsKept-room c.self.inside.wired c.reserve.new.self c.self.inside.topology.topology c.self.inside.servers.items c.self.inside.gossip c.self.inside.closings c.self.inside.last c.self.inside.stopped same c.reserve.ensures.kept c.self.invariant in
-    let running : IsRunning r c.reserve.new.self.lines c.self.inside.servers.items c.args.host =
-    IsRunning-of r c.reserve.new.self.lines c.self.inside.topology.topology c.self.inside.servers.items c.self.inside.gossip c.self.inside.closings c.self.inside.last c.self.inside.stopped c.args.host kept ready.runs
+    let kept : IsKept r c.reserve_beside.new.wired.lines c.self.inside.topology.topology c.self.inside.servers.items c.self.inside.gossip c.self.inside.closings c.self.inside.last c.self.inside.stopped =
+    IsKept-room c.self.inside.wired c.reserve_beside.new.wired c.self.inside.topology.topology c.self.inside.servers.items c.self.inside.gossip c.self.inside.closings c.self.inside.last c.self.inside.stopped same c.reserve_beside.ensures.kept c.self.invariant in
+    let running : IsRunning r c.reserve_beside.new.wired.lines c.self.inside.servers.items c.args.host =
+    IsRunning-of r c.reserve_beside.new.wired.lines c.self.inside.topology.topology c.self.inside.servers.items c.self.inside.gossip c.self.inside.closings c.self.inside.last c.self.inside.stopped c.args.host kept ready.runs
     (subst (λ (p : Point). AtServer p.state c.args.host (λ s. (began : ℕ) × Runs began s)) (sym point) runs) in
     let within = slice_get_within c.self.inside.servers.items c.args.host running.server running.there in
     omega (arith, c.self.inside.servers.ok)
@@ -145,16 +145,16 @@ pub tell_end-requires-clause-stands : goal.tell_end-requires-clause-stands
 tell_end-requires-clause-stands g c =
     let ready = rw (← c.self.view_is) at c.requires.ready in
     let runs = rw (← c.self.view_is) at c.requires.runs in
-    let r : Recorded = c.reserve.new.self.trail in
-    let same = c.reserve.ensures.same in
+    let r : Recorded = c.reserve_beside.new.wired.trail in
+    let same = c.reserve_beside.ensures.same in
     let point : r.point ≡ c.self.inside.wired.trail.point = ap (λ s. s.trail.point) same in
-    let kept : IsKept r c.reserve.new.self.lines c.self.inside.topology.topology c.self.inside.servers.items c.self.inside.gossip c.self.inside.closings c.self.inside.last c.self.inside.stopped =
-    IsKept-room c.self.inside.wired c.reserve.new.self c.self.inside.topology.topology c.self.inside.servers.items c.self.inside.gossip c.self.inside.closings c.self.inside.last c.self.inside.stopped same c.reserve.ensures.kept c.self.invariant in
-    let running : IsRunning r c.reserve.new.self.lines c.self.inside.servers.items c.args.host =
-    IsRunning-of r c.reserve.new.self.lines c.self.inside.topology.topology c.self.inside.servers.items c.self.inside.gossip c.self.inside.closings c.self.inside.last c.self.inside.stopped c.args.host kept ready.runs
+    let kept : IsKept r c.reserve_beside.new.wired.lines c.self.inside.topology.topology c.self.inside.servers.items c.self.inside.gossip c.self.inside.closings c.self.inside.last c.self.inside.stopped =
+    IsKept-room c.self.inside.wired c.reserve_beside.new.wired c.self.inside.topology.topology c.self.inside.servers.items c.self.inside.gossip c.self.inside.closings c.self.inside.last c.self.inside.stopped same c.reserve_beside.ensures.kept c.self.invariant in
+    let running : IsRunning r c.reserve_beside.new.wired.lines c.self.inside.servers.items c.args.host =
+    IsRunning-of r c.reserve_beside.new.wired.lines c.self.inside.topology.topology c.self.inside.servers.items c.self.inside.gossip c.self.inside.closings c.self.inside.last c.self.inside.stopped c.args.host kept ready.runs
     (subst (λ (p : Point). AtServer p.state c.args.host (λ s. (began : ℕ) × Runs began s)) (sym point) runs) in
-    let d : IsDriven r c.reserve.new.self.lines c.self.inside.servers.items c.args.host c.in-Some-Some.stream c.in-Some-Some.began =
-    IsDriven-of r c.reserve.new.self.lines c.self.inside.servers.items c.args.host c.in-Some-Some.stream c.in-Some-Some.began c.index-server.result.now running c.index-server.ensures
+    let d : IsDriven r c.reserve_beside.new.wired.lines c.self.inside.servers.items c.args.host c.in-Some-Some.stream c.in-Some-Some.began =
+    IsDriven-of r c.reserve_beside.new.wired.lines c.self.inside.servers.items c.args.host c.in-Some-Some.stream c.in-Some-Some.began c.index-server.result.now running c.index-server.ensures
     (sym c.check_stream.ensures.stream ∙ c.in-Some-Some.is-0) (sym c.began.ensures.value ∙ c.in-Some-Some.is-1) in
     let paid : r.point.owed ≡ [] = ap (λ (p : Point). p.owed) point ∙ ready.paid in
     let ends = rw c.in-Ok-Some.field-0-is at c.in-Ok-Some.ensures.ends in
@@ -162,20 +162,20 @@ tell_end-requires-clause-stands g c =
     let h = kept.leads ready.runs in
     let moment = h.moment in
     let now = ready.now in
-    StandsAt-driven r c.drive.new.wired.trail c.reserve.new.self.lines c.self.inside.servers.items c.args.host c.in-Some-Some.stream c.in-Some-Some.began c.limit_of-limit.result c.args.moment ends.0 c.in-Ok-Some.end.event c.in-Ok-Some.end.how c.host.result.now d
+    StandsAt-driven r c.drive.new.wired.trail c.reserve_beside.new.wired.lines c.self.inside.servers.items c.args.host c.in-Some-Some.stream c.in-Some-Some.began c.limit_of-limit.result c.args.moment ends.0 c.in-Ok-Some.end.event c.in-Ok-Some.end.how c.host.result.now d
     c.drive.ensures.trail paid (omega arith) limits ends.1
 
 pub index_mut-server-requires : goal.index_mut-server-requires
 index_mut-server-requires g c =
     let ready = rw (← c.self.view_is) at c.requires.ready in
     let runs = rw (← c.self.view_is) at c.requires.runs in
-    let r : Recorded = c.reserve.new.self.trail in
-    let same = c.reserve.ensures.same in
+    let r : Recorded = c.reserve_beside.new.wired.trail in
+    let same = c.reserve_beside.ensures.same in
     let point : r.point ≡ c.self.inside.wired.trail.point = ap (λ s. s.trail.point) same in
-    let kept : IsKept r c.reserve.new.self.lines c.self.inside.topology.topology c.self.inside.servers.items c.self.inside.gossip c.self.inside.closings c.self.inside.last c.self.inside.stopped =
-    IsKept-room c.self.inside.wired c.reserve.new.self c.self.inside.topology.topology c.self.inside.servers.items c.self.inside.gossip c.self.inside.closings c.self.inside.last c.self.inside.stopped same c.reserve.ensures.kept c.self.invariant in
-    let running : IsRunning r c.reserve.new.self.lines c.self.inside.servers.items c.args.host =
-    IsRunning-of r c.reserve.new.self.lines c.self.inside.topology.topology c.self.inside.servers.items c.self.inside.gossip c.self.inside.closings c.self.inside.last c.self.inside.stopped c.args.host kept ready.runs
+    let kept : IsKept r c.reserve_beside.new.wired.lines c.self.inside.topology.topology c.self.inside.servers.items c.self.inside.gossip c.self.inside.closings c.self.inside.last c.self.inside.stopped =
+    IsKept-room c.self.inside.wired c.reserve_beside.new.wired c.self.inside.topology.topology c.self.inside.servers.items c.self.inside.gossip c.self.inside.closings c.self.inside.last c.self.inside.stopped same c.reserve_beside.ensures.kept c.self.invariant in
+    let running : IsRunning r c.reserve_beside.new.wired.lines c.self.inside.servers.items c.args.host =
+    IsRunning-of r c.reserve_beside.new.wired.lines c.self.inside.topology.topology c.self.inside.servers.items c.self.inside.gossip c.self.inside.closings c.self.inside.last c.self.inside.stopped c.args.host kept ready.runs
     (subst (λ (p : Point). AtServer p.state c.args.host (λ s. (began : ℕ) × Runs began s)) (sym point) runs) in
     let within = slice_get_within c.self.inside.servers.items c.args.host running.server running.there in
     omega (arith, c.self.inside.servers.ok)
@@ -184,16 +184,16 @@ pub end_check-requires-clause-stays : goal.end_check-requires-clause-stays
 end_check-requires-clause-stays g c =
     let ready = rw (← c.self.view_is) at c.requires.ready in
     let runs = rw (← c.self.view_is) at c.requires.runs in
-    let r : Recorded = c.reserve.new.self.trail in
-    let same = c.reserve.ensures.same in
+    let r : Recorded = c.reserve_beside.new.wired.trail in
+    let same = c.reserve_beside.ensures.same in
     let point : r.point ≡ c.self.inside.wired.trail.point = ap (λ s. s.trail.point) same in
-    let kept : IsKept r c.reserve.new.self.lines c.self.inside.topology.topology c.self.inside.servers.items c.self.inside.gossip c.self.inside.closings c.self.inside.last c.self.inside.stopped =
-    IsKept-room c.self.inside.wired c.reserve.new.self c.self.inside.topology.topology c.self.inside.servers.items c.self.inside.gossip c.self.inside.closings c.self.inside.last c.self.inside.stopped same c.reserve.ensures.kept c.self.invariant in
-    let running : IsRunning r c.reserve.new.self.lines c.self.inside.servers.items c.args.host =
-    IsRunning-of r c.reserve.new.self.lines c.self.inside.topology.topology c.self.inside.servers.items c.self.inside.gossip c.self.inside.closings c.self.inside.last c.self.inside.stopped c.args.host kept ready.runs
+    let kept : IsKept r c.reserve_beside.new.wired.lines c.self.inside.topology.topology c.self.inside.servers.items c.self.inside.gossip c.self.inside.closings c.self.inside.last c.self.inside.stopped =
+    IsKept-room c.self.inside.wired c.reserve_beside.new.wired c.self.inside.topology.topology c.self.inside.servers.items c.self.inside.gossip c.self.inside.closings c.self.inside.last c.self.inside.stopped same c.reserve_beside.ensures.kept c.self.invariant in
+    let running : IsRunning r c.reserve_beside.new.wired.lines c.self.inside.servers.items c.args.host =
+    IsRunning-of r c.reserve_beside.new.wired.lines c.self.inside.topology.topology c.self.inside.servers.items c.self.inside.gossip c.self.inside.closings c.self.inside.last c.self.inside.stopped c.args.host kept ready.runs
     (subst (λ (p : Point). AtServer p.state c.args.host (λ s. (began : ℕ) × Runs began s)) (sym point) runs) in
-    let d : IsDriven r c.reserve.new.self.lines c.self.inside.servers.items c.args.host c.in-Some-Some.stream c.in-Some-Some.began =
-    IsDriven-of r c.reserve.new.self.lines c.self.inside.servers.items c.args.host c.in-Some-Some.stream c.in-Some-Some.began c.index-server.result.now running c.index-server.ensures
+    let d : IsDriven r c.reserve_beside.new.wired.lines c.self.inside.servers.items c.args.host c.in-Some-Some.stream c.in-Some-Some.began =
+    IsDriven-of r c.reserve_beside.new.wired.lines c.self.inside.servers.items c.args.host c.in-Some-Some.stream c.in-Some-Some.began c.index-server.result.now running c.index-server.ensures
     (sym c.check_stream.ensures.stream ∙ c.in-Some-Some.is-0) (sym c.began.ensures.value ∙ c.in-Some-Some.is-1) in
     let is_2 : c.index_mut-server.result.now ≡ d.server =
     read-there c.self.inside.servers.items c.args.host d.server c.index_mut-server.result.now d.there c.index_mut-server.ensures.value in
@@ -203,16 +203,16 @@ pub end_check-requires-clause-running : goal.end_check-requires-clause-running
 end_check-requires-clause-running g c =
     let ready = rw (← c.self.view_is) at c.requires.ready in
     let runs = rw (← c.self.view_is) at c.requires.runs in
-    let r : Recorded = c.reserve.new.self.trail in
-    let same = c.reserve.ensures.same in
+    let r : Recorded = c.reserve_beside.new.wired.trail in
+    let same = c.reserve_beside.ensures.same in
     let point : r.point ≡ c.self.inside.wired.trail.point = ap (λ s. s.trail.point) same in
-    let kept : IsKept r c.reserve.new.self.lines c.self.inside.topology.topology c.self.inside.servers.items c.self.inside.gossip c.self.inside.closings c.self.inside.last c.self.inside.stopped =
-    IsKept-room c.self.inside.wired c.reserve.new.self c.self.inside.topology.topology c.self.inside.servers.items c.self.inside.gossip c.self.inside.closings c.self.inside.last c.self.inside.stopped same c.reserve.ensures.kept c.self.invariant in
-    let running : IsRunning r c.reserve.new.self.lines c.self.inside.servers.items c.args.host =
-    IsRunning-of r c.reserve.new.self.lines c.self.inside.topology.topology c.self.inside.servers.items c.self.inside.gossip c.self.inside.closings c.self.inside.last c.self.inside.stopped c.args.host kept ready.runs
+    let kept : IsKept r c.reserve_beside.new.wired.lines c.self.inside.topology.topology c.self.inside.servers.items c.self.inside.gossip c.self.inside.closings c.self.inside.last c.self.inside.stopped =
+    IsKept-room c.self.inside.wired c.reserve_beside.new.wired c.self.inside.topology.topology c.self.inside.servers.items c.self.inside.gossip c.self.inside.closings c.self.inside.last c.self.inside.stopped same c.reserve_beside.ensures.kept c.self.invariant in
+    let running : IsRunning r c.reserve_beside.new.wired.lines c.self.inside.servers.items c.args.host =
+    IsRunning-of r c.reserve_beside.new.wired.lines c.self.inside.topology.topology c.self.inside.servers.items c.self.inside.gossip c.self.inside.closings c.self.inside.last c.self.inside.stopped c.args.host kept ready.runs
     (subst (λ (p : Point). AtServer p.state c.args.host (λ s. (began : ℕ) × Runs began s)) (sym point) runs) in
-    let d : IsDriven r c.reserve.new.self.lines c.self.inside.servers.items c.args.host c.in-Some-Some.stream c.in-Some-Some.began =
-    IsDriven-of r c.reserve.new.self.lines c.self.inside.servers.items c.args.host c.in-Some-Some.stream c.in-Some-Some.began c.index-server.result.now running c.index-server.ensures
+    let d : IsDriven r c.reserve_beside.new.wired.lines c.self.inside.servers.items c.args.host c.in-Some-Some.stream c.in-Some-Some.began =
+    IsDriven-of r c.reserve_beside.new.wired.lines c.self.inside.servers.items c.args.host c.in-Some-Some.stream c.in-Some-Some.began c.index-server.result.now running c.index-server.ensures
     (sym c.check_stream.ensures.stream ∙ c.in-Some-Some.is-0) (sym c.began.ensures.value ∙ c.in-Some-Some.is-1) in
     let is_2 : c.index_mut-server.result.now ≡ d.server =
     read-there c.self.inside.servers.items c.args.host d.server c.index_mut-server.result.now d.there c.index_mut-server.ensures.value in
@@ -222,21 +222,21 @@ pub invariant_of-self-in-Ok-Some : goal.invariant_of-self-in-Ok-Some
 invariant_of-self-in-Ok-Some g c =
     let ready = rw (← c.self.view_is) at c.requires.ready in
     let runs = rw (← c.self.view_is) at c.requires.runs in
-    let r : Recorded = c.reserve.new.self.trail in
-    let same = c.reserve.ensures.same in
+    let r : Recorded = c.reserve_beside.new.wired.trail in
+    let same = c.reserve_beside.ensures.same in
     let point : r.point ≡ c.self.inside.wired.trail.point = ap (λ s. s.trail.point) same in
-    let kept : IsKept r c.reserve.new.self.lines c.self.inside.topology.topology c.self.inside.servers.items c.self.inside.gossip c.self.inside.closings c.self.inside.last c.self.inside.stopped =
-    IsKept-room c.self.inside.wired c.reserve.new.self c.self.inside.topology.topology c.self.inside.servers.items c.self.inside.gossip c.self.inside.closings c.self.inside.last c.self.inside.stopped same c.reserve.ensures.kept c.self.invariant in
-    let running : IsRunning r c.reserve.new.self.lines c.self.inside.servers.items c.args.host =
-    IsRunning-of r c.reserve.new.self.lines c.self.inside.topology.topology c.self.inside.servers.items c.self.inside.gossip c.self.inside.closings c.self.inside.last c.self.inside.stopped c.args.host kept ready.runs
+    let kept : IsKept r c.reserve_beside.new.wired.lines c.self.inside.topology.topology c.self.inside.servers.items c.self.inside.gossip c.self.inside.closings c.self.inside.last c.self.inside.stopped =
+    IsKept-room c.self.inside.wired c.reserve_beside.new.wired c.self.inside.topology.topology c.self.inside.servers.items c.self.inside.gossip c.self.inside.closings c.self.inside.last c.self.inside.stopped same c.reserve_beside.ensures.kept c.self.invariant in
+    let running : IsRunning r c.reserve_beside.new.wired.lines c.self.inside.servers.items c.args.host =
+    IsRunning-of r c.reserve_beside.new.wired.lines c.self.inside.topology.topology c.self.inside.servers.items c.self.inside.gossip c.self.inside.closings c.self.inside.last c.self.inside.stopped c.args.host kept ready.runs
     (subst (λ (p : Point). AtServer p.state c.args.host (λ s. (began : ℕ) × Runs began s)) (sym point) runs) in
-    let d : IsDriven r c.reserve.new.self.lines c.self.inside.servers.items c.args.host c.in-Some-Some.stream c.in-Some-Some.began =
-    IsDriven-of r c.reserve.new.self.lines c.self.inside.servers.items c.args.host c.in-Some-Some.stream c.in-Some-Some.began c.index-server.result.now running c.index-server.ensures
+    let d : IsDriven r c.reserve_beside.new.wired.lines c.self.inside.servers.items c.args.host c.in-Some-Some.stream c.in-Some-Some.began =
+    IsDriven-of r c.reserve_beside.new.wired.lines c.self.inside.servers.items c.args.host c.in-Some-Some.stream c.in-Some-Some.began c.index-server.result.now running c.index-server.ensures
     (sym c.check_stream.ensures.stream ∙ c.in-Some-Some.is-0) (sym c.began.ensures.value ∙ c.in-Some-Some.is-1) in
     let ends = rw c.in-Ok-Some.field-0-is at c.in-Ok-Some.ensures.ends in
     let adds = c.tell_end.ensures.adds in
     let more : IsAtLeast (record { names = 0; events = 0; sessions = 0; requests = 0; steps = c.self.inside.closings + 2 }) r.room =
-    subst (λ (m : Room). IsAtLeast m r.room) c.in_ok-room.ensures c.in_ok-reserve.ensures.room in
+    subst (λ (m : Room). IsAtLeast m r.room) c.in_ok-room.ensures c.in_ok-reserve_beside.ensures.room in
     let steps = more.steps in
     let used = adds.room_used.steps in
     let same_room : c.drive.new.wired.trail.room.steps ≡ r.room.steps = ap (λ (x : Recorded). x.room.steps) c.drive.ensures.trail in
@@ -248,12 +248,12 @@ invariant_of-self-in-Ok-Some g c =
     c.is_known-known.ensures ∙ ap (stands_known c.self.inside.topology.topology) (c.host-in-Ok-Some.ensures.address ∙ ap (λ (s : ServerState). s.address) is_3) in
     let on : EndsOn c.tell_end.new.wired.lines c.args.host c.in-Ok-Some.end.how d.server.check_stream =
     subst (λ (l : Lines). EndsOn l c.args.host c.in-Ok-Some.end.how d.server.check_stream) (sym lines)
-    (EndsOn-by c.reserve.new.self.lines c.drive.new.wired.lines c.args.host c.in-Some-Some.stream c.in-Ok-Some.end.how d.server.check_stream d.line d.has d.line_there d.is_for (rw c.in-Ok-Some.field-0-is at c.in-Ok-Some.ensures.kept)) in
-    let only : OnlyAt c.args.host c.reserve.new.self.lines c.tell_end.new.wired.lines =
+    (EndsOn-by c.reserve_beside.new.wired.lines c.drive.new.wired.lines c.args.host c.in-Some-Some.stream c.in-Ok-Some.end.how d.server.check_stream d.line d.has d.line_there d.is_for (rw c.in-Ok-Some.field-0-is at c.in-Ok-Some.ensures.kept)) in
+    let only : OnlyAt c.args.host c.reserve_beside.new.wired.lines c.tell_end.new.wired.lines =
     others_same c.in-Some-Some.stream d.line d.line_there d.is_for (λ other n. ap (λ l. line_at l other) lines ∙ c.drive.ensures.others other n) in
-    let kept_2 : IsKept c.drive.new.wired.trail c.reserve.new.self.lines c.self.inside.topology.topology c.self.inside.servers.items c.self.inside.gossip c.self.inside.closings c.self.inside.last c.self.inside.stopped =
-    subst (λ (x : Recorded). IsKept x c.reserve.new.self.lines c.self.inside.topology.topology c.self.inside.servers.items c.self.inside.gossip c.self.inside.closings c.self.inside.last c.self.inside.stopped) (sym c.drive.ensures.trail) kept in
-    IsKept-ended c.drive.new.wired.trail c.tell_end.new.wired.trail c.reserve.new.self.lines c.tell_end.new.wired.lines c.self.inside.topology.topology c.self.inside.servers.items c.self.inside.gossip c.self.inside.closings c.self.inside.last c.args.moment c.args.host c.self.inside.stopped c.in-Ok-Some.end.how c.is_known-known.result d.server c.end_check.new.self
+    let kept_2 : IsKept c.drive.new.wired.trail c.reserve_beside.new.wired.lines c.self.inside.topology.topology c.self.inside.servers.items c.self.inside.gossip c.self.inside.closings c.self.inside.last c.self.inside.stopped =
+    subst (λ (x : Recorded). IsKept x c.reserve_beside.new.wired.lines c.self.inside.topology.topology c.self.inside.servers.items c.self.inside.gossip c.self.inside.closings c.self.inside.last c.self.inside.stopped) (sym c.drive.ensures.trail) kept in
+    IsKept-ended c.drive.new.wired.trail c.tell_end.new.wired.trail c.reserve_beside.new.wired.lines c.tell_end.new.wired.lines c.self.inside.topology.topology c.self.inside.servers.items c.self.inside.gossip c.self.inside.closings c.self.inside.last c.args.moment c.args.host c.self.inside.stopped c.in-Ok-Some.end.how c.is_known-known.result d.server c.end_check.new.self
     (entry_of.CheckEnded c.args.host c.in-Ok-Some.end.how) adds d.there
     (λ e. absurd (not-undialled c.host.result.now c.in-Some-Some.began c.limit_of-limit.result c.args.moment ends.0 c.in-Ok-Some.end.event c.in-Ok-Some.end.how ends.1 e))
     on only ready.now (omega arith) knows (c.end_check.ensures.ends ∙ ap (check_ends c.args.moment c.in-Ok-Some.end.how c.is_known-known.result) is_2) kept_2
@@ -262,22 +262,22 @@ pub follow_end-requires-clause-writing : goal.follow_end-requires-clause-writing
 follow_end-requires-clause-writing g c =
     let ready = rw (← c.self.view_is) at c.requires.ready in
     let runs = rw (← c.self.view_is) at c.requires.runs in
-    let r : Recorded = c.reserve.new.self.trail in
-    let same = c.reserve.ensures.same in
+    let r : Recorded = c.reserve_beside.new.wired.trail in
+    let same = c.reserve_beside.ensures.same in
     let point : r.point ≡ c.self.inside.wired.trail.point = ap (λ s. s.trail.point) same in
-    let kept : IsKept r c.reserve.new.self.lines c.self.inside.topology.topology c.self.inside.servers.items c.self.inside.gossip c.self.inside.closings c.self.inside.last c.self.inside.stopped =
-    IsKept-room c.self.inside.wired c.reserve.new.self c.self.inside.topology.topology c.self.inside.servers.items c.self.inside.gossip c.self.inside.closings c.self.inside.last c.self.inside.stopped same c.reserve.ensures.kept c.self.invariant in
-    let running : IsRunning r c.reserve.new.self.lines c.self.inside.servers.items c.args.host =
-    IsRunning-of r c.reserve.new.self.lines c.self.inside.topology.topology c.self.inside.servers.items c.self.inside.gossip c.self.inside.closings c.self.inside.last c.self.inside.stopped c.args.host kept ready.runs
+    let kept : IsKept r c.reserve_beside.new.wired.lines c.self.inside.topology.topology c.self.inside.servers.items c.self.inside.gossip c.self.inside.closings c.self.inside.last c.self.inside.stopped =
+    IsKept-room c.self.inside.wired c.reserve_beside.new.wired c.self.inside.topology.topology c.self.inside.servers.items c.self.inside.gossip c.self.inside.closings c.self.inside.last c.self.inside.stopped same c.reserve_beside.ensures.kept c.self.invariant in
+    let running : IsRunning r c.reserve_beside.new.wired.lines c.self.inside.servers.items c.args.host =
+    IsRunning-of r c.reserve_beside.new.wired.lines c.self.inside.topology.topology c.self.inside.servers.items c.self.inside.gossip c.self.inside.closings c.self.inside.last c.self.inside.stopped c.args.host kept ready.runs
     (subst (λ (p : Point). AtServer p.state c.args.host (λ s. (began : ℕ) × Runs began s)) (sym point) runs) in
-    let d : IsDriven r c.reserve.new.self.lines c.self.inside.servers.items c.args.host c.in-Some-Some.stream c.in-Some-Some.began =
-    IsDriven-of r c.reserve.new.self.lines c.self.inside.servers.items c.args.host c.in-Some-Some.stream c.in-Some-Some.began c.index-server.result.now running c.index-server.ensures
+    let d : IsDriven r c.reserve_beside.new.wired.lines c.self.inside.servers.items c.args.host c.in-Some-Some.stream c.in-Some-Some.began =
+    IsDriven-of r c.reserve_beside.new.wired.lines c.self.inside.servers.items c.args.host c.in-Some-Some.stream c.in-Some-Some.began c.index-server.result.now running c.index-server.ensures
     (sym c.check_stream.ensures.stream ∙ c.in-Some-Some.is-0) (sym c.began.ensures.value ∙ c.in-Some-Some.is-1) in
     let paid : r.point.owed ≡ [] = ap (λ (p : Point). p.owed) point ∙ ready.paid in
     let ends = rw c.in-Ok-Some.field-0-is at c.in-Ok-Some.ensures.ends in
     let adds = c.tell_end.ensures.adds in
     let more : IsAtLeast (record { names = 0; events = 0; sessions = 0; requests = 0; steps = c.self.inside.closings + 2 }) r.room =
-    subst (λ (m : Room). IsAtLeast m r.room) c.in_ok-room.ensures c.in_ok-reserve.ensures.room in
+    subst (λ (m : Room). IsAtLeast m r.room) c.in_ok-room.ensures c.in_ok-reserve_beside.ensures.room in
     let steps = more.steps in
     let used = adds.room_used.steps in
     let same_room : c.drive.new.wired.trail.room.steps ≡ r.room.steps = ap (λ (x : Recorded). x.room.steps) c.drive.ensures.trail in
@@ -306,17 +306,17 @@ pub follow_end-requires-clause-count : goal.follow_end-requires-clause-count
 follow_end-requires-clause-count g c =
     let ready = rw (← c.self.view_is) at c.requires.ready in
     let runs = rw (← c.self.view_is) at c.requires.runs in
-    let r : Recorded = c.reserve.new.self.trail in
-    let same = c.reserve.ensures.same in
+    let r : Recorded = c.reserve_beside.new.wired.trail in
+    let same = c.reserve_beside.ensures.same in
     let point : r.point ≡ c.self.inside.wired.trail.point = ap (λ s. s.trail.point) same in
-    let kept : IsKept r c.reserve.new.self.lines c.self.inside.topology.topology c.self.inside.servers.items c.self.inside.gossip c.self.inside.closings c.self.inside.last c.self.inside.stopped =
-    IsKept-room c.self.inside.wired c.reserve.new.self c.self.inside.topology.topology c.self.inside.servers.items c.self.inside.gossip c.self.inside.closings c.self.inside.last c.self.inside.stopped same c.reserve.ensures.kept c.self.invariant in
-    let running : IsRunning r c.reserve.new.self.lines c.self.inside.servers.items c.args.host =
-    IsRunning-of r c.reserve.new.self.lines c.self.inside.topology.topology c.self.inside.servers.items c.self.inside.gossip c.self.inside.closings c.self.inside.last c.self.inside.stopped c.args.host kept ready.runs
+    let kept : IsKept r c.reserve_beside.new.wired.lines c.self.inside.topology.topology c.self.inside.servers.items c.self.inside.gossip c.self.inside.closings c.self.inside.last c.self.inside.stopped =
+    IsKept-room c.self.inside.wired c.reserve_beside.new.wired c.self.inside.topology.topology c.self.inside.servers.items c.self.inside.gossip c.self.inside.closings c.self.inside.last c.self.inside.stopped same c.reserve_beside.ensures.kept c.self.invariant in
+    let running : IsRunning r c.reserve_beside.new.wired.lines c.self.inside.servers.items c.args.host =
+    IsRunning-of r c.reserve_beside.new.wired.lines c.self.inside.topology.topology c.self.inside.servers.items c.self.inside.gossip c.self.inside.closings c.self.inside.last c.self.inside.stopped c.args.host kept ready.runs
     (subst (λ (p : Point). AtServer p.state c.args.host (λ s. (began : ℕ) × Runs began s)) (sym point) runs) in
     let adds = c.tell_end.ensures.adds in
     let few = rw c.in-Ok-Some.field-0-is at c.in-Ok-Some.ensures.few in
-    let names = length-names r c.drive.new.wired.trail c.tell_end.new.wired.trail c.reserve.new.self.lines c.self.inside.topology.topology c.self.inside.servers.items c.self.inside.gossip c.self.inside.last c.args.moment c.args.host c.in-Ok-Some.end.how c.drive.ensures.trail adds (kept.leads ready.runs) in
+    let names = length-names r c.drive.new.wired.trail c.tell_end.new.wired.trail c.reserve_beside.new.wired.lines c.self.inside.topology.topology c.self.inside.servers.items c.self.inside.gossip c.self.inside.last c.args.moment c.args.host c.in-Ok-Some.end.how c.drive.ensures.trail adds (kept.leads ready.runs) in
     let len = c.len.ensures in
     omega (arith, c.self.inside.servers.ok)
 
@@ -324,12 +324,12 @@ pub returns-in_err-follow_end-in-Ok-Some-clause-appends : goal.returns-in_err-fo
 returns-in_err-follow_end-in-Ok-Some-clause-appends g c =
     let ends = rw c.in-Ok-Some.field-0-is at c.in-Ok-Some.ensures.ends in
     let adds = c.tell_end.ensures.adds in
-    let same = c.reserve.ensures.same in
+    let same = c.reserve_beside.ensures.same in
     let cause = rw c.in-Ok-Some.field-0-is at c.in-Ok-Some.ensures.cause in
     let later : g.N.Net.faults c.drive.new.wired.net ≤ g.N.Net.faults c.follow_end.new.self.net =
     subst (λ n. g.N.Net.faults n ≤ g.N.Net.faults c.follow_end.new.self.net) (ap (λ s. s.net) c.tell_end.ensures.same) c.follow_end.ensures.faults in
     rw (← c.self.view_is)
-    (Appends-ended c.self.inside.wired.trail c.drive.new.wired.trail c.tell_end.new.wired.trail c.follow_end.new.self.trail c.reserve.new.self.trail.room c.args.moment c.args.host c.in-Ok-Some.end.how
+    (Appends-ended c.self.inside.wired.trail c.drive.new.wired.trail c.tell_end.new.wired.trail c.follow_end.new.self.trail c.reserve_beside.new.wired.trail.room c.args.moment c.args.host c.in-Ok-Some.end.how
     (c.drive.ensures.trail ∙ ap (λ s. s.trail) same) adds
     (Rose-by c.host.result.now c.args.host c.in-Some-Some.began c.limit_of-limit.result c.args.moment (g.N.Net.faults c.self.inside.wired.net)
     (g.N.Net.faults c.drive.new.wired.net) (g.N.Net.faults c.follow_end.new.self.net) ends.0 c.in-Ok-Some.end.event c.in-Ok-Some.end.how ends.1
@@ -339,18 +339,18 @@ returns-in_err-follow_end-in-Ok-Some-clause-appends g c =
 pub returns-in-Ok-None-clause-appends : goal.returns-in-Ok-None-clause-appends
 returns-in-Ok-None-clause-appends g c =
     rw (← c.self.view_is)
-    (Appends-room c.args.moment c.self.inside.wired.trail c.drive.new.wired.trail c.reserve.new.self.trail.room (c.drive.ensures.trail ∙ ap (λ s. s.trail) c.reserve.ensures.same))
+    (Appends-room c.args.moment c.self.inside.wired.trail c.drive.new.wired.trail c.reserve_beside.new.wired.trail.room (c.drive.ensures.trail ∙ ap (λ s. s.trail) c.reserve_beside.ensures.same))
 
 pub returns-in_ok-follow_end-in-Ok-Some-clause-appends : goal.returns-in_ok-follow_end-in-Ok-Some-clause-appends
 returns-in_ok-follow_end-in-Ok-Some-clause-appends g c =
     let ends = rw c.in-Ok-Some.field-0-is at c.in-Ok-Some.ensures.ends in
     let adds = c.tell_end.ensures.adds in
-    let same = c.reserve.ensures.same in
+    let same = c.reserve_beside.ensures.same in
     let cause = rw c.in-Ok-Some.field-0-is at c.in-Ok-Some.ensures.cause in
     let later : g.N.Net.faults c.drive.new.wired.net ≤ g.N.Net.faults c.follow_end.new.self.net =
     subst (λ n. g.N.Net.faults n ≤ g.N.Net.faults c.follow_end.new.self.net) (ap (λ s. s.net) c.tell_end.ensures.same) c.follow_end.ensures.faults in
     rw (← c.self.view_is)
-    (Appends-ended c.self.inside.wired.trail c.drive.new.wired.trail c.tell_end.new.wired.trail c.follow_end.new.self.trail c.reserve.new.self.trail.room c.args.moment c.args.host c.in-Ok-Some.end.how
+    (Appends-ended c.self.inside.wired.trail c.drive.new.wired.trail c.tell_end.new.wired.trail c.follow_end.new.self.trail c.reserve_beside.new.wired.trail.room c.args.moment c.args.host c.in-Ok-Some.end.how
     (c.drive.ensures.trail ∙ ap (λ s. s.trail) same) adds
     (Rose-by c.host.result.now c.args.host c.in-Some-Some.began c.limit_of-limit.result c.args.moment (g.N.Net.faults c.self.inside.wired.net)
     (g.N.Net.faults c.drive.new.wired.net) (g.N.Net.faults c.follow_end.new.self.net) ends.0 c.in-Ok-Some.end.event c.in-Ok-Some.end.how ends.1
@@ -360,22 +360,22 @@ returns-in_ok-follow_end-in-Ok-Some-clause-appends g c =
 pub returns-in-Err-clause-appends : goal.returns-in-Err-clause-appends
 returns-in-Err-clause-appends g c =
     rw (← c.self.view_is)
-    (Appends-room c.args.moment c.self.inside.wired.trail c.drive.new.wired.trail c.reserve.new.self.trail.room (c.drive.ensures.trail ∙ ap (λ s. s.trail) c.reserve.ensures.same))
+    (Appends-room c.args.moment c.self.inside.wired.trail c.drive.new.wired.trail c.reserve_beside.new.wired.trail.room (c.drive.ensures.trail ∙ ap (λ s. s.trail) c.reserve_beside.ensures.same))
 
 pub returns-in-Ok-None-clause-waits : goal.returns-in-Ok-None-clause-waits
 returns-in-Ok-None-clause-waits g c =
     let ready = rw (← c.self.view_is) at c.requires.ready in
     let runs = rw (← c.self.view_is) at c.requires.runs in
-    let r : Recorded = c.reserve.new.self.trail in
-    let same = c.reserve.ensures.same in
+    let r : Recorded = c.reserve_beside.new.wired.trail in
+    let same = c.reserve_beside.ensures.same in
     let point : r.point ≡ c.self.inside.wired.trail.point = ap (λ s. s.trail.point) same in
-    let kept : IsKept r c.reserve.new.self.lines c.self.inside.topology.topology c.self.inside.servers.items c.self.inside.gossip c.self.inside.closings c.self.inside.last c.self.inside.stopped =
-    IsKept-room c.self.inside.wired c.reserve.new.self c.self.inside.topology.topology c.self.inside.servers.items c.self.inside.gossip c.self.inside.closings c.self.inside.last c.self.inside.stopped same c.reserve.ensures.kept c.self.invariant in
-    let running : IsRunning r c.reserve.new.self.lines c.self.inside.servers.items c.args.host =
-    IsRunning-of r c.reserve.new.self.lines c.self.inside.topology.topology c.self.inside.servers.items c.self.inside.gossip c.self.inside.closings c.self.inside.last c.self.inside.stopped c.args.host kept ready.runs
+    let kept : IsKept r c.reserve_beside.new.wired.lines c.self.inside.topology.topology c.self.inside.servers.items c.self.inside.gossip c.self.inside.closings c.self.inside.last c.self.inside.stopped =
+    IsKept-room c.self.inside.wired c.reserve_beside.new.wired c.self.inside.topology.topology c.self.inside.servers.items c.self.inside.gossip c.self.inside.closings c.self.inside.last c.self.inside.stopped same c.reserve_beside.ensures.kept c.self.invariant in
+    let running : IsRunning r c.reserve_beside.new.wired.lines c.self.inside.servers.items c.args.host =
+    IsRunning-of r c.reserve_beside.new.wired.lines c.self.inside.topology.topology c.self.inside.servers.items c.self.inside.gossip c.self.inside.closings c.self.inside.last c.self.inside.stopped c.args.host kept ready.runs
     (subst (λ (p : Point). AtServer p.state c.args.host (λ s. (began : ℕ) × Runs began s)) (sym point) runs) in
-    let d : IsDriven r c.reserve.new.self.lines c.self.inside.servers.items c.args.host c.in-Some-Some.stream c.in-Some-Some.began =
-    IsDriven-of r c.reserve.new.self.lines c.self.inside.servers.items c.args.host c.in-Some-Some.stream c.in-Some-Some.began c.index-server.result.now running c.index-server.ensures
+    let d : IsDriven r c.reserve_beside.new.wired.lines c.self.inside.servers.items c.args.host c.in-Some-Some.stream c.in-Some-Some.began =
+    IsDriven-of r c.reserve_beside.new.wired.lines c.self.inside.servers.items c.args.host c.in-Some-Some.stream c.in-Some-Some.began c.index-server.result.now running c.index-server.ensures
     (sym c.check_stream.ensures.stream ∙ c.in-Some-Some.is-0) (sym c.began.ensures.value ∙ c.in-Some-Some.is-1) in
     let limits : c.limit_of-limit.result ≡ c.in-Some-Some.began + connect_limit r.client = c.limit_of-limit.ensures r.client (sym c.settings.ensures.value) in
     let early = rw c.in-Ok-None.field-0-is at c.in-Ok-None.ensures.early in
@@ -386,16 +386,16 @@ pub returns-in_ok-follow_end-in-Ok-Some-clause-ends : goal.returns-in_ok-follow_
 returns-in_ok-follow_end-in-Ok-Some-clause-ends g c =
     let ready = rw (← c.self.view_is) at c.requires.ready in
     let runs = rw (← c.self.view_is) at c.requires.runs in
-    let r : Recorded = c.reserve.new.self.trail in
-    let same = c.reserve.ensures.same in
+    let r : Recorded = c.reserve_beside.new.wired.trail in
+    let same = c.reserve_beside.ensures.same in
     let point : r.point ≡ c.self.inside.wired.trail.point = ap (λ s. s.trail.point) same in
-    let kept : IsKept r c.reserve.new.self.lines c.self.inside.topology.topology c.self.inside.servers.items c.self.inside.gossip c.self.inside.closings c.self.inside.last c.self.inside.stopped =
-    IsKept-room c.self.inside.wired c.reserve.new.self c.self.inside.topology.topology c.self.inside.servers.items c.self.inside.gossip c.self.inside.closings c.self.inside.last c.self.inside.stopped same c.reserve.ensures.kept c.self.invariant in
-    let running : IsRunning r c.reserve.new.self.lines c.self.inside.servers.items c.args.host =
-    IsRunning-of r c.reserve.new.self.lines c.self.inside.topology.topology c.self.inside.servers.items c.self.inside.gossip c.self.inside.closings c.self.inside.last c.self.inside.stopped c.args.host kept ready.runs
+    let kept : IsKept r c.reserve_beside.new.wired.lines c.self.inside.topology.topology c.self.inside.servers.items c.self.inside.gossip c.self.inside.closings c.self.inside.last c.self.inside.stopped =
+    IsKept-room c.self.inside.wired c.reserve_beside.new.wired c.self.inside.topology.topology c.self.inside.servers.items c.self.inside.gossip c.self.inside.closings c.self.inside.last c.self.inside.stopped same c.reserve_beside.ensures.kept c.self.invariant in
+    let running : IsRunning r c.reserve_beside.new.wired.lines c.self.inside.servers.items c.args.host =
+    IsRunning-of r c.reserve_beside.new.wired.lines c.self.inside.topology.topology c.self.inside.servers.items c.self.inside.gossip c.self.inside.closings c.self.inside.last c.self.inside.stopped c.args.host kept ready.runs
     (subst (λ (p : Point). AtServer p.state c.args.host (λ s. (began : ℕ) × Runs began s)) (sym point) runs) in
-    let d : IsDriven r c.reserve.new.self.lines c.self.inside.servers.items c.args.host c.in-Some-Some.stream c.in-Some-Some.began =
-    IsDriven-of r c.reserve.new.self.lines c.self.inside.servers.items c.args.host c.in-Some-Some.stream c.in-Some-Some.began c.index-server.result.now running c.index-server.ensures
+    let d : IsDriven r c.reserve_beside.new.wired.lines c.self.inside.servers.items c.args.host c.in-Some-Some.stream c.in-Some-Some.began =
+    IsDriven-of r c.reserve_beside.new.wired.lines c.self.inside.servers.items c.args.host c.in-Some-Some.stream c.in-Some-Some.began c.index-server.result.now running c.index-server.ensures
     (sym c.check_stream.ensures.stream ∙ c.in-Some-Some.is-0) (sym c.began.ensures.value ∙ c.in-Some-Some.is-1) in
     let ends = rw c.in-Ok-Some.field-0-is at c.in-Ok-Some.ensures.ends in
     let adds = c.tell_end.ensures.adds in
@@ -421,16 +421,16 @@ pub tell_end-requires-clause-on : goal.tell_end-requires-clause-on
 tell_end-requires-clause-on g c =
     let ready = rw (← c.self.view_is) at c.requires.ready in
     let runs = rw (← c.self.view_is) at c.requires.runs in
-    let r : Recorded = c.reserve.new.self.trail in
-    let same = c.reserve.ensures.same in
+    let r : Recorded = c.reserve_beside.new.wired.trail in
+    let same = c.reserve_beside.ensures.same in
     let point : r.point ≡ c.self.inside.wired.trail.point = ap (λ s. s.trail.point) same in
-    let kept : IsKept r c.reserve.new.self.lines c.self.inside.topology.topology c.self.inside.servers.items c.self.inside.gossip c.self.inside.closings c.self.inside.last c.self.inside.stopped =
-    IsKept-room c.self.inside.wired c.reserve.new.self c.self.inside.topology.topology c.self.inside.servers.items c.self.inside.gossip c.self.inside.closings c.self.inside.last c.self.inside.stopped same c.reserve.ensures.kept c.self.invariant in
-    let running : IsRunning r c.reserve.new.self.lines c.self.inside.servers.items c.args.host =
-    IsRunning-of r c.reserve.new.self.lines c.self.inside.topology.topology c.self.inside.servers.items c.self.inside.gossip c.self.inside.closings c.self.inside.last c.self.inside.stopped c.args.host kept ready.runs
+    let kept : IsKept r c.reserve_beside.new.wired.lines c.self.inside.topology.topology c.self.inside.servers.items c.self.inside.gossip c.self.inside.closings c.self.inside.last c.self.inside.stopped =
+    IsKept-room c.self.inside.wired c.reserve_beside.new.wired c.self.inside.topology.topology c.self.inside.servers.items c.self.inside.gossip c.self.inside.closings c.self.inside.last c.self.inside.stopped same c.reserve_beside.ensures.kept c.self.invariant in
+    let running : IsRunning r c.reserve_beside.new.wired.lines c.self.inside.servers.items c.args.host =
+    IsRunning-of r c.reserve_beside.new.wired.lines c.self.inside.topology.topology c.self.inside.servers.items c.self.inside.gossip c.self.inside.closings c.self.inside.last c.self.inside.stopped c.args.host kept ready.runs
     (subst (λ (p : Point). AtServer p.state c.args.host (λ s. (began : ℕ) × Runs began s)) (sym point) runs) in
-    let d : IsDriven r c.reserve.new.self.lines c.self.inside.servers.items c.args.host c.in-Some-Some.stream c.in-Some-Some.began =
-    IsDriven-of r c.reserve.new.self.lines c.self.inside.servers.items c.args.host c.in-Some-Some.stream c.in-Some-Some.began c.index-server.result.now running c.index-server.ensures
+    let d : IsDriven r c.reserve_beside.new.wired.lines c.self.inside.servers.items c.args.host c.in-Some-Some.stream c.in-Some-Some.began =
+    IsDriven-of r c.reserve_beside.new.wired.lines c.self.inside.servers.items c.args.host c.in-Some-Some.stream c.in-Some-Some.began c.index-server.result.now running c.index-server.ensures
     (sym c.check_stream.ensures.stream ∙ c.in-Some-Some.is-0) (sym c.began.ensures.value ∙ c.in-Some-Some.is-1) in
     let before : Recorded = c.drive.new.wired.trail in
     let at : slice_get before.point.state.servers c.args.host ≡ Some d.server = ap (λ (t : Recorded). slice_get t.point.state.servers c.args.host) c.drive.ensures.trail ∙ d.at_point in
@@ -441,16 +441,16 @@ pub tell_end-requires-clause-heard : goal.tell_end-requires-clause-heard
 tell_end-requires-clause-heard g c = λ tells.
     let ready = rw (← c.self.view_is) at c.requires.ready in
     let runs = rw (← c.self.view_is) at c.requires.runs in
-    let r : Recorded = c.reserve.new.self.trail in
-    let same = c.reserve.ensures.same in
+    let r : Recorded = c.reserve_beside.new.wired.trail in
+    let same = c.reserve_beside.ensures.same in
     let point : r.point ≡ c.self.inside.wired.trail.point = ap (λ s. s.trail.point) same in
-    let kept : IsKept r c.reserve.new.self.lines c.self.inside.topology.topology c.self.inside.servers.items c.self.inside.gossip c.self.inside.closings c.self.inside.last c.self.inside.stopped =
-    IsKept-room c.self.inside.wired c.reserve.new.self c.self.inside.topology.topology c.self.inside.servers.items c.self.inside.gossip c.self.inside.closings c.self.inside.last c.self.inside.stopped same c.reserve.ensures.kept c.self.invariant in
-    let running : IsRunning r c.reserve.new.self.lines c.self.inside.servers.items c.args.host =
-    IsRunning-of r c.reserve.new.self.lines c.self.inside.topology.topology c.self.inside.servers.items c.self.inside.gossip c.self.inside.closings c.self.inside.last c.self.inside.stopped c.args.host kept ready.runs
+    let kept : IsKept r c.reserve_beside.new.wired.lines c.self.inside.topology.topology c.self.inside.servers.items c.self.inside.gossip c.self.inside.closings c.self.inside.last c.self.inside.stopped =
+    IsKept-room c.self.inside.wired c.reserve_beside.new.wired c.self.inside.topology.topology c.self.inside.servers.items c.self.inside.gossip c.self.inside.closings c.self.inside.last c.self.inside.stopped same c.reserve_beside.ensures.kept c.self.invariant in
+    let running : IsRunning r c.reserve_beside.new.wired.lines c.self.inside.servers.items c.args.host =
+    IsRunning-of r c.reserve_beside.new.wired.lines c.self.inside.topology.topology c.self.inside.servers.items c.self.inside.gossip c.self.inside.closings c.self.inside.last c.self.inside.stopped c.args.host kept ready.runs
     (subst (λ (p : Point). AtServer p.state c.args.host (λ s. (began : ℕ) × Runs began s)) (sym point) runs) in
-    let d : IsDriven r c.reserve.new.self.lines c.self.inside.servers.items c.args.host c.in-Some-Some.stream c.in-Some-Some.began =
-    IsDriven-of r c.reserve.new.self.lines c.self.inside.servers.items c.args.host c.in-Some-Some.stream c.in-Some-Some.began c.index-server.result.now running c.index-server.ensures
+    let d : IsDriven r c.reserve_beside.new.wired.lines c.self.inside.servers.items c.args.host c.in-Some-Some.stream c.in-Some-Some.began =
+    IsDriven-of r c.reserve_beside.new.wired.lines c.self.inside.servers.items c.args.host c.in-Some-Some.stream c.in-Some-Some.began c.index-server.result.now running c.index-server.ensures
     (sym c.check_stream.ensures.stream ∙ c.in-Some-Some.is-0) (sym c.began.ensures.value ∙ c.in-Some-Some.is-1) in
     let before : Recorded = c.drive.new.wired.trail in
     let at : slice_get before.point.state.servers c.args.host ≡ Some d.server = ap (λ (t : Recorded). slice_get t.point.state.servers c.args.host) c.drive.ensures.trail ∙ d.at_point in
@@ -477,3 +477,6 @@ follow_end-requires-clause-came g c = λ tells.
     let hears = rw c.in-Ok-Some.field-0-is at (c.in-Ok-Some.ensures.heard tells) in
     rw (c.tell_end.ensures.same)
     (check-came (g.N.Net.history c.drive.new.wired.net) c.drive.new.wired.trail c.in-Some-Some.stream _ _ c.in-Ok-Some.end.how c.in-Ok-Some.end.event c.in-Ok-Some.end.time hears)
+
+pub tell_end-requires-clause-counted : goal.tell_end-requires-clause-counted
+tell_end-requires-clause-counted g c = rw c.in-Ok-Some.field-0-is at c.in-Ok-Some.ensures.counted

@@ -7,7 +7,7 @@ use Rattle.desk_core.specs.Appends.{AppendsAside}
 use Rattle.desk_core.specs.Commands.{MovesOne}
 use Rattle.desk_core.specs.Kept.{IsWriting}
 use Rattle.desk_core.specs.Receiving.{offers}
-use Rattle.desk_core.proofs.AppendsLemmas.{Appends-trans, grown-trans, grown-weaken}
+use Rattle.desk_core.proofs.AppendsLemmas.{Appends-trans, grown-plain, grown-trans, grown-weaken}
 use Rattle.desk_core.proofs.AttemptLemmas.{rose-from, there-moved}
 use Rattle.desk_core.proofs.BesideLemmas.{MovesOne-aside, MovesOne-trans}
 use Rattle.desk_core.proofs.OfferLemmas.{OnOk-by}
@@ -31,7 +31,7 @@ returns-in_err-offer_some-clause-appends g c =
     let b : Recorded = c.hear_time.new.self.trail in
     let d : Recorded = c.offer_some.new.self.trail in
     let aside : AppendsAside ⊥ c.args.at.moment a d = Appends-trans c.args.at.moment a b d c.hear_time.ensures.appends c.offer_some.ensures.appends in
-    grown-trans c.args.at.moment old a d (grown-weaken c.args.at.moment old a (λ x. inr x) c.write_end.ensures.appends) (grown-weaken c.args.at.moment a d (λ x. absurd x) aside.appends)
+    grown-trans c.args.at.moment old a d (grown-weaken c.args.at.moment old a (λ x. inr x) c.write_end.ensures.appends) (grown-weaken c.args.at.moment a d (λ x. absurd x) (grown-plain c.args.at.moment c.args.at.op a d aside))
 
 pub returns-in_err-make_room-clause-appends : goal.returns-in_err-make_room-clause-appends
 returns-in_err-make_room-clause-appends g c =
@@ -42,7 +42,7 @@ returns-in_err-make_room-clause-appends g c =
     let e : Recorded = c.make_room.new.self.trail in
     let aside : AppendsAside ⊥ c.args.at.moment a e =
     Appends-trans c.args.at.moment a b e c.hear_time.ensures.appends (Appends-trans c.args.at.moment b d e c.offer_some.ensures.appends (c.make_room.ensures.appends c.args.at.moment)) in
-    grown-trans c.args.at.moment old a e (grown-weaken c.args.at.moment old a (λ x. inr x) c.write_end.ensures.appends) (grown-weaken c.args.at.moment a e (λ x. absurd x) aside.appends)
+    grown-trans c.args.at.moment old a e (grown-weaken c.args.at.moment old a (λ x. inr x) c.write_end.ensures.appends) (grown-weaken c.args.at.moment a e (λ x. absurd x) (grown-plain c.args.at.moment c.args.at.op a e aside))
 
 pub check_in-requires-clause-owes : goal.check_in-requires-clause-owes
 check_in-requires-clause-owes g c =
@@ -98,7 +98,7 @@ returns-clause-appends g c =
     let offered = c.offer_some.ensures.faults in
     let later : g.N.Net.faults c.args.self.now.net ≤ g.N.Net.faults c.make_room.new.self.net = omega (arith, same, alike, heard, offered) in
     grown-trans c.args.at.moment old e f
-    (grown-trans c.args.at.moment old a e (grown-weaken c.args.at.moment old a (λ x. inr x) c.write_end.ensures.appends) (grown-weaken c.args.at.moment a e (λ x. absurd x) aside.appends))
+    (grown-trans c.args.at.moment old a e (grown-weaken c.args.at.moment old a (λ x. inr x) c.write_end.ensures.appends) (grown-weaken c.args.at.moment a e (λ x. absurd x) (grown-plain c.args.at.moment c.args.at.op a e aside)))
     (grown-weaken c.args.at.moment e f
     (λ r. inl (rose-from (g.N.Net.faults c.args.self.now.net) (g.N.Net.faults c.make_room.new.self.net) (g.N.Net.faults c.check_in.new.self.net) later r)) c.check_in.ensures.appends)
 

@@ -39,13 +39,13 @@ returns-in_err-room-clause-appends g c = rw (← c.self.view_is) (Appends-refl c
 
 pub invariant_of-self : goal.invariant_of-self
 invariant_of-self g c =
-    IsKept-room c.self.inside.wired c.reserve.new.self c.self.inside.topology.topology c.self.inside.servers.items c.self.inside.gossip c.self.inside.closings c.self.inside.last c.self.inside.stopped
-    c.reserve.ensures.same c.reserve.ensures.kept c.self.invariant
+    IsKept-room c.self.inside.wired c.reserve_beside.new.wired c.self.inside.topology.topology c.self.inside.servers.items c.self.inside.gossip c.self.inside.closings c.self.inside.last c.self.inside.stopped
+    c.reserve_beside.ensures.same c.reserve_beside.ensures.kept c.self.invariant
 
-pub returns-in_err-reserve-clause-appends : goal.returns-in_err-reserve-clause-appends
-returns-in_err-reserve-clause-appends g c =
+pub returns-in_err-reserve_beside-clause-appends : goal.returns-in_err-reserve_beside-clause-appends
+returns-in_err-reserve_beside-clause-appends g c =
     rw (← c.self.view_is)
-    (Appends-room c.args.moment c.self.inside.wired.trail c.reserve.new.self.trail c.reserve.new.self.trail.room (ap (λ s. s.trail) c.reserve.ensures.same))
+    (Appends-room c.args.moment c.self.inside.wired.trail c.reserve_beside.new.wired.trail c.reserve_beside.new.wired.trail.room (ap (λ s. s.trail) c.reserve_beside.ensures.same))
 
 pub index-requires-2 : goal.index-requires-2
 index-requires-2 g c =
@@ -63,14 +63,14 @@ tell_undialled-requires-clause-stands g c =
     let rest = c.requires.begins.0 in
     let due = rw (← c.self.view_is) at c.requires.due in
     let h = c.self.invariant.leads ready.runs in
-    let point : c.reserve.new.self.trail.point ≡ c.self.inside.wired.trail.point = ap (λ s. s.trail.point) c.reserve.ensures.same in
-    let ahead : c.reserve.new.self.trail.point.moment ≡ c.self.inside.wired.trail.point.moment = ap (λ (p : Point). p.moment) point in
+    let point : c.reserve_beside.new.wired.trail.point ≡ c.self.inside.wired.trail.point = ap (λ s. s.trail.point) c.reserve_beside.ensures.same in
+    let ahead : c.reserve_beside.new.wired.trail.point.moment ≡ c.self.inside.wired.trail.point.moment = ap (λ (p : Point). p.moment) point in
     let how : c.in_ok-end.end.how ≡ how_of.NoDial = ap (λ e. e.how) c.in_ok-end.ensures in
     let moment = h.moment in
     let now = ready.now in (
       fact.CheckEnded c.args.host c.in_ok-end.end.how,
       refl,
-      StandsAt-undialled c.reserve.new.self.trail.client c.reserve.new.self.trail.point c.args.moment c.args.host c.in_ok-end.end.how rest how
+      StandsAt-undialled c.reserve_beside.new.wired.trail.client c.reserve_beside.new.wired.trail.point c.args.moment c.args.host c.in_ok-end.end.how rest how
           (subst (λ (p : Point). MayBegin p c.args.moment c.args.host rest) (sym point) ready.turn)
           (omega arith) (ap (λ (p : Point). p.state.is_ending) point ∙ ap (λ (s : ClientState). s.is_ending) h.state)
           (due.0, ap (λ (p : Point). slice_get p.state.servers c.args.host) point ∙ due.1, (due.2.0, due.2.1)),
@@ -114,11 +114,11 @@ invariant_of-self-2 g c =
     let rest = c.requires.begins.0 in
     let due = rw (← c.self.view_is) at c.requires.due in
     let h = c.self.invariant.leads ready.runs in
-    let r : Recorded = c.reserve.new.self.trail in
+    let r : Recorded = c.reserve_beside.new.wired.trail in
     let how : c.in_ok-end.end.how ≡ how_of.NoDial = ap (λ e. e.how) c.in_ok-end.ensures in
     let kept =
-    IsKept-room c.self.inside.wired c.reserve.new.self c.self.inside.topology.topology c.self.inside.servers.items c.self.inside.gossip c.self.inside.closings c.self.inside.last c.self.inside.stopped
-    c.reserve.ensures.same c.reserve.ensures.kept c.self.invariant in
+    IsKept-room c.self.inside.wired c.reserve_beside.new.wired c.self.inside.topology.topology c.self.inside.servers.items c.self.inside.gossip c.self.inside.closings c.self.inside.last c.self.inside.stopped
+    c.reserve_beside.ensures.same c.reserve_beside.ensures.kept c.self.invariant in
     let there : slice_get c.self.inside.servers.items c.args.host ≡ Some due.0 = ap (λ (s : ClientState). slice_get s.servers c.args.host) (sym h.state) ∙ due.1 in
     let is : c.index_mut-server.result.now ≡ due.0 =
     read-there c.self.inside.servers.items c.args.host due.0 c.index_mut-server.result.now there c.index_mut-server.ensures.value in
@@ -127,10 +127,10 @@ invariant_of-self-2 g c =
     c.is_known-known.ensures ∙ ap (stands_known c.self.inside.topology.topology) (c.host-2.ensures.address ∙ ap (λ (s : ServerState). s.address) read) in
     let adds = c.tell_undialled.ensures.adds (fact.CheckEnded c.args.host c.in_ok-end.end.how) refl in
     let more : IsAtLeast (record { names = 0; events = 0; sessions = 0; requests = 0; steps = c.self.inside.closings + 1 }) r.room =
-    subst (λ (m : Room). IsAtLeast m r.room) c.in_ok-room.ensures c.in_ok-reserve.ensures.room in
+    subst (λ (m : Room). IsAtLeast m r.room) c.in_ok-room.ensures c.in_ok-reserve_beside.ensures.room in
     let steps = more.steps in
     let used = adds.room_used.steps in
-    IsKept-ended r c.tell_undialled.new.self.trail c.reserve.new.self.lines c.tell_undialled.new.self.lines c.self.inside.topology.topology c.self.inside.servers.items c.self.inside.gossip
+    IsKept-ended r c.tell_undialled.new.self.trail c.reserve_beside.new.wired.lines c.tell_undialled.new.self.lines c.self.inside.topology.topology c.self.inside.servers.items c.self.inside.gossip
     c.self.inside.closings c.self.inside.last c.args.moment c.args.host c.self.inside.stopped c.in_ok-end.end.how c.is_known-known.result due.0 c.end_check.new.self
     (entry_of.CheckEnded c.args.host c.in_ok-end.end.how) adds there (λ n. due.2.1) (none_kept (ap (λ k. kept_stream k due.0.check_stream) how))
     (all_same (ap (λ s. s.lines) c.tell_undialled.ensures.same)) ready.now (omega arith) known
@@ -142,10 +142,10 @@ offer-requires-clause-writing g c =
     let rest = c.requires.begins.0 in
     let due = rw (← c.self.view_is) at c.requires.due in
     let h = c.self.invariant.leads ready.runs in
-    let r : Recorded = c.reserve.new.self.trail in
+    let r : Recorded = c.reserve_beside.new.wired.trail in
     let k : CheckHow = c.in_ok-end.end.how in
     let how : k ≡ how_of.NoDial = ap (λ e. e.how) c.in_ok-end.ensures in
-    let point : r.point ≡ c.self.inside.wired.trail.point = ap (λ s. s.trail.point) c.reserve.ensures.same in
+    let point : r.point ≡ c.self.inside.wired.trail.point = ap (λ s. s.trail.point) c.reserve_beside.ensures.same in
     let there : slice_get c.self.inside.servers.items c.args.host ≡ Some due.0 = ap (λ (s : ClientState). slice_get s.servers c.args.host) (sym h.state) ∙ due.1 in
     let read : c.index.result.now ≡ due.0 = read-there c.self.inside.servers.items c.args.host due.0 c.index.result.now there c.index.ensures in
     let event : c.in_ok-end.end.event ≡ event_of.Broken due.0.address None =
@@ -153,7 +153,7 @@ offer-requires-clause-writing g c =
     let o = IsOwedBy-broken k due.0 c.in_ok-end.end.event how event in
     let adds = c.tell_undialled.ensures.adds (fact.CheckEnded c.args.host k) refl in
     let more : IsAtLeast (record { names = 0; events = 0; sessions = 0; requests = 0; steps = c.self.inside.closings + 1 }) r.room =
-    subst (λ (m : Room). IsAtLeast m r.room) c.in_ok-room.ensures c.in_ok-reserve.ensures.room in
+    subst (λ (m : Room). IsAtLeast m r.room) c.in_ok-room.ensures c.in_ok-reserve_beside.ensures.room in
     let steps = more.steps in
     let used = adds.room_used.steps in (
       o.first,
@@ -179,7 +179,7 @@ offer-requires-clause-count g c =
     let h = c.self.invariant.leads ready.runs in
     let adds = c.tell_undialled.ensures.adds (fact.CheckEnded c.args.host c.in_ok-end.end.how) refl in
     let count : length c.tell_undialled.new.self.trail.lists.names ≡ length c.self.inside.servers.items =
-    ap (λ (l : Lists). length l.names) adds.lists_now ∙ ap (λ s. length s.trail.lists.names) c.reserve.ensures.same ∙ ap length h.names
+    ap (λ (l : Lists). length l.names) adds.lists_now ∙ ap (λ s. length s.trail.lists.names) c.reserve_beside.ensures.same ∙ ap length h.names
     ∙ length-map c.self.inside.servers.items (λ (s : ServerState). s.address) in
     let numbers = h.numbers in
     let listed : length (listed_by c.in_ok-end.end.event) ≡ 0 = ap (λ e. length (listed_by e.event)) c.in_ok-end.ensures in
@@ -190,10 +190,10 @@ returns-clause-ok g c = λ rest begins.
     let ready = rw (← c.self.view_is) at begins in
     let due = rw (← c.self.view_is) at c.requires.due in
     let h = c.self.invariant.leads ready.runs in
-    let r : Recorded = c.reserve.new.self.trail in
+    let r : Recorded = c.reserve_beside.new.wired.trail in
     let k : CheckHow = c.in_ok-end.end.how in
     let how : k ≡ how_of.NoDial = ap (λ e. e.how) c.in_ok-end.ensures in
-    let point : r.point ≡ c.self.inside.wired.trail.point = ap (λ s. s.trail.point) c.reserve.ensures.same in
+    let point : r.point ≡ c.self.inside.wired.trail.point = ap (λ s. s.trail.point) c.reserve_beside.ensures.same in
     let there : slice_get c.self.inside.servers.items c.args.host ≡ Some due.0 = ap (λ (s : ClientState). slice_get s.servers c.args.host) (sym h.state) ∙ due.1 in
     let read : c.index.result.now ≡ due.0 = read-there c.self.inside.servers.items c.args.host due.0 c.index.result.now there c.index.ensures in
     let event : c.in_ok-end.end.event ≡ event_of.Broken due.0.address None =
@@ -201,7 +201,7 @@ returns-clause-ok g c = λ rest begins.
     let o = IsOwedBy-broken k due.0 c.in_ok-end.end.event how event in
     let adds = c.tell_undialled.ensures.adds (fact.CheckEnded c.args.host k) refl in
     let more : IsAtLeast (record { names = 0; events = 0; sessions = 0; requests = 0; steps = c.self.inside.closings + 1 }) r.room =
-    subst (λ (m : Room). IsAtLeast m r.room) c.in_ok-room.ensures c.in_ok-reserve.ensures.room in
+    subst (λ (m : Room). IsAtLeast m r.room) c.in_ok-room.ensures c.in_ok-reserve_beside.ensures.room in
     let steps = more.steps in
     let used = adds.room_used.steps in
     c.offer.ensures.ok o.first rest (record {
@@ -219,11 +219,11 @@ returns-clause-ok g c = λ rest begins.
 pub returns-clause-appends : goal.returns-clause-appends
 returns-clause-appends g c =
     let old : Recorded = c.self.inside.wired.trail in
-    let r : Recorded = c.reserve.new.self.trail in
+    let r : Recorded = c.reserve_beside.new.wired.trail in
     let between : Recorded = c.tell_undialled.new.self.trail in
     let k : CheckHow = c.in_ok-end.end.how in
     rw (← c.self.view_is)
-    (Appends-trans c.args.moment old r c.offer.new.self.trail (Appends-room c.args.moment old r r.room (ap (λ s. s.trail) c.reserve.ensures.same))
+    (Appends-trans c.args.moment old r c.offer.new.self.trail (Appends-room c.args.moment old r r.room (ap (λ s. s.trail) c.reserve_beside.ensures.same))
     (Appends-trans c.args.moment r between c.offer.new.self.trail
     (Appends-adds an_entry r.lists c.args.moment (entry_of.CheckEnded c.args.host k) (fact.CheckEnded c.args.host k) r between (AreLonger-refl r.lists)
     (c.tell_undialled.ensures.adds (fact.CheckEnded c.args.host k) refl) (λ e. tt) (kept-by_end r.client c.args.moment r.point.state c.args.host k))
@@ -235,10 +235,10 @@ returns-clause-rests g c =
     let rest = c.requires.begins.0 in
     let due = rw (← c.self.view_is) at c.requires.due in
     let h = c.self.invariant.leads ready.runs in
-    let r : Recorded = c.reserve.new.self.trail in
+    let r : Recorded = c.reserve_beside.new.wired.trail in
     let k : CheckHow = c.in_ok-end.end.how in
     let how : k ≡ how_of.NoDial = ap (λ e. e.how) c.in_ok-end.ensures in
-    let point : r.point ≡ c.self.inside.wired.trail.point = ap (λ s. s.trail.point) c.reserve.ensures.same in
+    let point : r.point ≡ c.self.inside.wired.trail.point = ap (λ s. s.trail.point) c.reserve_beside.ensures.same in
     let there : slice_get c.self.inside.servers.items c.args.host ≡ Some due.0 = ap (λ (s : ClientState). slice_get s.servers c.args.host) (sym h.state) ∙ due.1 in
     let between : ClientState = c.tell_undialled.new.self.trail.point.state in
     let known : Bool = stands_known r.point.state.topology due.0.address in
@@ -260,9 +260,14 @@ tell_undialled-requires-clause-undialled g c = λ told is.
 pub tell_undialled-requires-clause-untold : goal.tell_undialled-requires-clause-untold
 tell_undialled-requires-clause-untold g c = λ tells.
     let untold = rw (← c.self.view_is) at (c.requires.untold tells) in
-    let net = subst (λ h. HasUntoldDial h c.self.inside.wired.trail) (sym (ap (λ s. g.N.Net.history s.net) c.reserve.ensures.same)) untold in
-    subst (λ (t : Recorded). HasUntoldDial (g.N.Net.history c.reserve.new.self.net) t) (sym (ap (λ s. s.trail) c.reserve.ensures.same)) net
+    let net = subst (λ h. HasUntoldDial h c.self.inside.wired.trail) (sym (ap (λ s. g.N.Net.history s.net) c.reserve_beside.ensures.same)) untold in
+    subst (λ (t : Recorded). HasUntoldDial (g.N.Net.history c.reserve_beside.new.wired.net) t) (sym (ap (λ s. s.trail) c.reserve_beside.ensures.same)) net
 
 pub offer-requires-clause-heard : goal.offer-requires-clause-heard
 offer-requires-clause-heard g c = λ tells.
     other-offers (g.N.Net.history c.tell_undialled.new.self.net) c.tell_undialled.new.self.trail c.in_ok-end.end.event (subst IsNoReply (sym (ap (λ e. e.event) c.in_ok-end.ensures)) tt)
+
+pub tell_undialled-requires-clause-counted : goal.tell_undialled-requires-clause-counted
+tell_undialled-requires-clause-counted g c = λ tells.
+    let untold = rw (← c.self.view_is) at c.requires.counted in
+    rw (c.reserve_beside.ensures.same) untold

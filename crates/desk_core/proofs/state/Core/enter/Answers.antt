@@ -4,7 +4,7 @@ use Rattle.std.proofs.lemmas.Option.{slice_get_read}
 use Rattle.desk_trail.specs.Legal.{Point}
 use Rattle.desk_trail.specs.States.{ClientState, CommandState}
 use Rattle.cmd_step.specs.declared.place.At.{At}
-use Rattle.desk_core.proofs.AppendsLemmas.{Appends-room}
+use Rattle.desk_core.proofs.AppendsLemmas.{grown-still}
 use Rattle.desk_core.proofs.BesideLemmas.{KeepsCheckLines-same}
 use Rattle.desk_core.proofs.ComesLemmas.{AreAt-work, Comes-entered, IsKept-comes, IsKept-same, closing-less, closing-within, entered-command, set-there}
 use Rattle.desk_core.proofs.KeptLemmas.{IsKept-room}
@@ -18,7 +18,7 @@ invariant_of-self g c =
 pub returns-in_err-reserve-clause-appends : goal.returns-in_err-reserve-clause-appends
 returns-in_err-reserve-clause-appends g c =
     rw (← c.self.view_is)
-    (Appends-room c.args.moment c.self.inside.wired.trail c.reserve.new.self.trail c.reserve.new.self.trail.room (ap (λ s. s.trail) c.reserve.ensures.same)).appends
+    (grown-still c.args.moment c.self.inside.wired.trail c.reserve.new.self.trail c.reserve.new.self.trail.room (ap (λ s. s.trail) c.reserve.ensures.same))
 
 pub enter-requires-clause-places : goal.enter-requires-clause-places
 enter-requires-clause-places g c =
@@ -84,8 +84,8 @@ overflow_add-self g c =
 pub returns-in_err-enter-clause-appends : goal.returns-in_err-enter-clause-appends
 returns-in_err-enter-clause-appends g c =
     rw (← c.self.view_is)
-    (Appends-room c.args.moment c.self.inside.wired.trail c.enter.new.wired.trail c.reserve.new.self.trail.room
-    (ap (λ s. s.trail) c.in_err-enter.ensures.err.0 ∙ ap (λ s. s.trail) c.reserve.ensures.same)).appends
+    (grown-still c.args.moment c.self.inside.wired.trail c.enter.new.wired.trail c.reserve.new.self.trail.room
+    (ap (λ s. s.trail) c.in_err-enter.ensures.err.0 ∙ ap (λ s. s.trail) c.reserve.ensures.same))
 
 pub invariant_of-self-2 : goal.invariant_of-self-2
 invariant_of-self-2 g c =

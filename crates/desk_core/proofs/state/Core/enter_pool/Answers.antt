@@ -1,5 +1,6 @@
 use Rattle.std.proofs.Common.{refl, arith}
-use Rattle.desk_core.proofs.AppendsLemmas.{grown-same}
+use Rattle.sess_book.specs.Ids.{id_of}
+use Rattle.desk_core.proofs.AppendsLemmas.{grown-leasing, grown-same}
 use Rattle.desk_core.proofs.GoingLemmas.{Appends-then, HasGone-lease, HasGone-none, HasGone-one, HasGone-then}
 use Rattle.desk_core.proofs.state.Core.enter_pool.Goals as goal
 
@@ -35,9 +36,16 @@ returns-in_ok-enter-clause-gone g c =
 pub returns-in_ok-enter-clause-appends : goal.returns-in_ok-enter-clause-appends
 returns-in_ok-enter-clause-appends g c =
     Appends-then _ _ _ c.args.at.moment c.args.self.now.trail c.equip.new.self.trail c.enter.new.self.trail c.equip.ensures.faults c.enter.ensures.faults
-    c.equip.ensures.appends c.enter.ensures.appends
+    c.equip.ensures.appends
+    (grown-leasing c.args.at.moment c.args.at.op (id_of c.args.words.first c.args.words.second) c.equip.new.self.trail c.enter.new.self.trail c.enter.ensures.appends)
 
 pub returns-else-eq-clause-gone : goal.returns-else-eq-clause-gone
 returns-else-eq-clause-gone g c =
     HasGone-lease c.args.self.now c.equip.new.self c.args.at.moment c.args.at.op _ _ _ _ c.requires.step c.in_ok-equipped.ensures.ok c.in_ok-equipped.ensures.moves
     c.in_ok-equipped.ensures.late
+
+pub returns-in_err-enter-clause-appends : goal.returns-in_err-enter-clause-appends
+returns-in_err-enter-clause-appends g c =
+    Appends-then _ _ _ c.args.at.moment c.args.self.now.trail c.equip.new.self.trail c.enter.new.self.trail c.equip.ensures.faults c.enter.ensures.faults
+    c.equip.ensures.appends
+    (grown-leasing c.args.at.moment c.args.at.op (id_of c.args.words.first c.args.words.second) c.equip.new.self.trail c.enter.new.self.trail c.enter.ensures.appends)

@@ -5,7 +5,7 @@ use Rattle.desk_trail.specs.declared.room.Room.{Room}
 use Rattle.desk_trail.specs.Written.{IsAtLeast}
 use Rattle.legal_trail.specs.Recorded.{Recorded}
 use Rattle.desk_core.specs.Commands.{MovesLease}
-use Rattle.desk_core.proofs.AppendsLemmas.{Appends-room, grown-trans}
+use Rattle.desk_core.proofs.AppendsLemmas.{grown-still, grown-trans}
 use Rattle.desk_core.proofs.KeptLemmas.{IsKept-room}
 use Rattle.desk_core.proofs.LeaseLemmas.{IsKept-leases, IsKept-same, MovesLease-leases, MovesLease-none, MovesLease-room, grown-leases, point-reserved}
 use Rattle.desk_core.proofs.state.Core.lease_one.Goals as goal
@@ -23,7 +23,7 @@ invariant_of-self g c =
 pub returns-in_err-reserve-clause-appends : goal.returns-in_err-reserve-clause-appends
 returns-in_err-reserve-clause-appends g c =
     rw (← c.self.view_is)
-    (Appends-room c.args.at.moment c.self.inside.wired.trail c.reserve.new.self.trail c.reserve.new.self.trail.room (ap (λ s. s.trail) c.reserve.ensures.same)).appends
+    (grown-still c.args.at.moment c.self.inside.wired.trail c.reserve.new.self.trail c.reserve.new.self.trail.room (ap (λ s. s.trail) c.reserve.ensures.same))
 
 pub invariant_of-self-in_err-lease : goal.invariant_of-self-in_err-lease
 invariant_of-self-in_err-lease g c =
@@ -35,8 +35,8 @@ invariant_of-self-in_err-lease g c =
 pub returns-in_err-lease-clause-appends : goal.returns-in_err-lease-clause-appends
 returns-in_err-lease-clause-appends g c =
     rw (← c.self.view_is)
-    (Appends-room c.args.at.moment c.self.inside.wired.trail c.lease.new.wired.trail c.reserve.new.self.trail.room
-    (ap (λ s. s.trail) c.in_err-lease.ensures.err.0 ∙ ap (λ s. s.trail) c.reserve.ensures.same)).appends
+    (grown-still c.args.at.moment c.self.inside.wired.trail c.lease.new.wired.trail c.reserve.new.self.trail.room
+    (ap (λ s. s.trail) c.in_err-lease.ensures.err.0 ∙ ap (λ s. s.trail) c.reserve.ensures.same))
 
 pub invariant_of-self-2 : goal.invariant_of-self-2
 invariant_of-self-2 g c =
@@ -76,6 +76,6 @@ returns-clause-appends g c =
     let r : Recorded = c.reserve.new.self.trail in
     rw (← c.self.view_is)
     (grown-trans c.args.at.moment old r c.lease.new.wired.trail
-    (Appends-room c.args.at.moment old r r.room (ap (λ s. s.trail) c.reserve.ensures.same)).appends
+    (grown-still c.args.at.moment old r r.room (ap (λ s. s.trail) c.reserve.ensures.same))
     (grown-leases r c.lease.new.wired.trail c.args.at c.args.sessions.now c.lease.new.sessions c.args.running.now c.lease.new.running
     (id_of c.args.words.first c.args.words.second) c.in_ok-lease.field-0 c.in_ok-lease.ensures.leases))

@@ -4,7 +4,7 @@ use Rattle.sess_book.specs.Ids.{id_of}
 use Rattle.write_retry.specs.declared.events.Next.TheVariants as next
 use Rattle.desk_core.specs.Steps.{MeansGoing, MeansPhase}
 use Rattle.desk_core.specs.declared.sight.Sight.{Sight}
-use Rattle.desk_core.proofs.GoingLemmas.{HasFound-more, HasGone-then, IsWaiting-client, MeansStep-going}
+use Rattle.desk_core.proofs.GoingLemmas.{Appends-then, HasFound-more, HasGone-then, IsWaiting-client, MeansStep-going}
 use Rattle.desk_core.proofs.state.Core.look_and_go.Goals as goal
 
 pub returns-in-Some-clause-gone : goal.returns-in-Some-clause-gone
@@ -22,7 +22,7 @@ returns-in-Wait-clause-sight g c = (
   _,
   c.in_ok-look_counted.ensures.gone.step.work.there,
   IsWaiting-client c.args.self.now.trail.client c.look_counted.new.self.trail.client c.look_counted.new.self.trail.point.state c.args.at.moment _ _
-      c.look_counted.ensures.appends.client
+      c.look_counted.ensures.appends.appends.client
       (subst (MeansPhase c.args.self.now.trail.client c.look_counted.new.self.trail.point.state c.args.at.moment c.look_counted.new.operation) c.in-Wait.is
       c.in_ok-look_counted.ensures.means),
 )
@@ -43,5 +43,20 @@ returns-in-None-clause-sight g c =
       );
       found =
           HasFound-more c.args.at.moment c.args.at.op c.args.words.a c.args.words.b c.args.self.now.trail c.look_counted.new.self.trail c.go_counted.new.self.trail
-          (c.in_ok-look_counted.ensures.found c.in-Done.is) c.go_counted.ensures.appends;
+          (c.in_ok-look_counted.ensures.found c.in-Done.is) c.go_counted.ensures.appends.appends;
     })
+
+pub returns-in_err-sight-in-Done-clause-appends : goal.returns-in_err-sight-in-Done-clause-appends
+returns-in_err-sight-in-Done-clause-appends g c =
+    Appends-then _ _ _ c.args.at.moment c.args.self.now.trail c.look_counted.new.self.trail c.go_counted.new.self.trail c.look_counted.ensures.faults c.go_counted.ensures.faults
+    c.look_counted.ensures.appends c.go_counted.ensures.appends
+
+pub returns-in-Some-clause-appends : goal.returns-in-Some-clause-appends
+returns-in-Some-clause-appends g c =
+    Appends-then _ _ _ c.args.at.moment c.args.self.now.trail c.look_counted.new.self.trail c.go_counted.new.self.trail c.look_counted.ensures.faults c.go_counted.ensures.faults
+    c.look_counted.ensures.appends c.go_counted.ensures.appends
+
+pub returns-in-None-clause-appends : goal.returns-in-None-clause-appends
+returns-in-None-clause-appends g c =
+    Appends-then _ _ _ c.args.at.moment c.args.self.now.trail c.look_counted.new.self.trail c.go_counted.new.self.trail c.look_counted.ensures.faults c.go_counted.ensures.faults
+    c.look_counted.ensures.appends c.go_counted.ensures.appends

@@ -19,26 +19,26 @@ returns-in_err-room-clause-appends g c = rw (← c.self.view_is) (Appends-refl c
 
 pub invariant_of-self : goal.invariant_of-self
 invariant_of-self g c =
-    IsKept-room c.self.inside.wired c.reserve.new.self c.self.inside.topology.topology c.self.inside.servers.items c.self.inside.gossip c.self.inside.closings c.self.inside.last c.self.inside.stopped
-    c.reserve.ensures.same c.reserve.ensures.kept c.self.invariant
+    IsKept-room c.self.inside.wired c.reserve_beside.new.wired c.self.inside.topology.topology c.self.inside.servers.items c.self.inside.gossip c.self.inside.closings c.self.inside.last c.self.inside.stopped
+    c.reserve_beside.ensures.same c.reserve_beside.ensures.kept c.self.invariant
 
-pub returns-in_err-reserve-clause-appends : goal.returns-in_err-reserve-clause-appends
-returns-in_err-reserve-clause-appends g c =
+pub returns-in_err-reserve_beside-clause-appends : goal.returns-in_err-reserve_beside-clause-appends
+returns-in_err-reserve_beside-clause-appends g c =
     rw (← c.self.view_is)
-    (Appends-room c.args.moment c.self.inside.wired.trail c.reserve.new.self.trail c.reserve.new.self.trail.room (ap (λ s. s.trail) c.reserve.ensures.same))
+    (Appends-room c.args.moment c.self.inside.wired.trail c.reserve_beside.new.wired.trail c.reserve_beside.new.wired.trail.room (ap (λ s. s.trail) c.reserve_beside.ensures.same))
 
 pub append-requires-clause-stands : goal.append-requires-clause-stands
 append-requires-clause-stands g c =
     let ready = rw (← c.self.view_is) at c.requires.ready in
     let runs = rw (← c.self.view_is) at c.requires.runs in
     let h = c.self.invariant.leads ready.runs in
-    let point : c.reserve.new.self.trail.point ≡ c.self.inside.wired.trail.point = ap (λ s. s.trail.point) c.reserve.ensures.same in
-    let ahead : c.reserve.new.self.trail.point.moment ≡ c.self.inside.wired.trail.point.moment = ap (λ (p : Point). p.moment) point in
+    let point : c.reserve_beside.new.wired.trail.point ≡ c.self.inside.wired.trail.point = ap (λ s. s.trail.point) c.reserve_beside.ensures.same in
+    let ahead : c.reserve_beside.new.wired.trail.point.moment ≡ c.self.inside.wired.trail.point.moment = ap (λ (p : Point). p.moment) point in
     let moment = h.moment in
     let now = ready.now in (
       fact.CheckDry c.args.host,
       refl,
-      StandsAt-dry c.reserve.new.self.trail.client c.reserve.new.self.trail.point c.args.moment c.args.host (ap (λ (p : Point). p.owed) point ∙ ready.paid)
+      StandsAt-dry c.reserve_beside.new.wired.trail.client c.reserve_beside.new.wired.trail.point c.args.moment c.args.host (ap (λ (p : Point). p.owed) point ∙ ready.paid)
           (omega arith) (ap (λ (p : Point). p.state.is_ending) point ∙ ap (λ (s : ClientState). s.is_ending) h.state)
           (runs.0, ap (λ (p : Point). slice_get p.state.servers c.args.host) point ∙ runs.1, runs.2),
     )
@@ -57,19 +57,19 @@ invariant_of-self-2 g c =
     let ready = rw (← c.self.view_is) at c.requires.ready in
     let runs = rw (← c.self.view_is) at c.requires.runs in
     let h = c.self.invariant.leads ready.runs in
-    let r : Recorded = c.reserve.new.self.trail in
+    let r : Recorded = c.reserve_beside.new.wired.trail in
     let kept =
-    IsKept-room c.self.inside.wired c.reserve.new.self c.self.inside.topology.topology c.self.inside.servers.items c.self.inside.gossip c.self.inside.closings c.self.inside.last c.self.inside.stopped
-    c.reserve.ensures.same c.reserve.ensures.kept c.self.invariant in
+    IsKept-room c.self.inside.wired c.reserve_beside.new.wired c.self.inside.topology.topology c.self.inside.servers.items c.self.inside.gossip c.self.inside.closings c.self.inside.last c.self.inside.stopped
+    c.reserve_beside.ensures.same c.reserve_beside.ensures.kept c.self.invariant in
     let there : slice_get c.self.inside.servers.items c.args.host ≡ Some runs.0 = ap (λ (s : ClientState). slice_get s.servers c.args.host) (sym h.state) ∙ runs.1 in
     let is : c.index_mut-server.result.now ≡ runs.0 =
     read-there c.self.inside.servers.items c.args.host runs.0 c.index_mut-server.result.now there c.index_mut-server.ensures.value in
     let adds = c.append.ensures.adds (fact.CheckDry c.args.host) refl in
     let more : IsAtLeast (record { names = 0; events = 0; sessions = 0; requests = 0; steps = c.self.inside.closings + 1 }) r.room =
-    subst (λ (m : Room). IsAtLeast m r.room) c.in_ok-room.ensures c.in_ok-reserve.ensures.room in
+    subst (λ (m : Room). IsAtLeast m r.room) c.in_ok-room.ensures c.in_ok-reserve_beside.ensures.room in
     let steps = more.steps in
     let used = adds.room_used.steps in
-    IsKept-dry r c.append.new.self.trail c.reserve.new.self.lines c.append.new.self.lines c.self.inside.topology.topology c.self.inside.servers.items c.self.inside.gossip
+    IsKept-dry r c.append.new.self.trail c.reserve_beside.new.wired.lines c.append.new.self.lines c.self.inside.topology.topology c.self.inside.servers.items c.self.inside.gossip
     c.self.inside.closings c.self.inside.last c.args.moment c.args.host c.self.inside.stopped runs.0 c.find_dry.new.self
     (entry_of.CheckDry c.args.host) adds there (ap (λ s. s.lines) c.append.ensures.same) ready.now (omega arith)
     (c.find_dry.ensures.dry ∙ ap (dried c.args.moment) is) kept
@@ -78,7 +78,7 @@ pub returns-clause-ok : goal.returns-clause-ok
 returns-clause-ok g c =
     let ready = rw (← c.self.view_is) at c.requires.ready in
     let adds = c.append.ensures.adds (fact.CheckDry c.args.host) refl in
-    let point : c.reserve.new.self.trail.point ≡ c.self.inside.wired.trail.point = ap (λ s. s.trail.point) c.reserve.ensures.same in
+    let point : c.reserve_beside.new.wired.trail.point ≡ c.self.inside.wired.trail.point = ap (λ s. s.trail.point) c.reserve_beside.ensures.same in
     record {
       runs = ready.runs;
       paid = ap (λ (p : Point). p.owed) adds.point_now ∙ ap (λ (p : Point). drop 1 p.owed) point ∙ ap (λ ds. drop 1 ds) ready.paid;
@@ -88,16 +88,16 @@ returns-clause-ok g c =
 pub returns-clause-appends : goal.returns-clause-appends
 returns-clause-appends g c =
     let old : Recorded = c.self.inside.wired.trail in
-    let r : Recorded = c.reserve.new.self.trail in
+    let r : Recorded = c.reserve_beside.new.wired.trail in
     rw (← c.self.view_is)
-    (Appends-trans c.args.moment old r c.append.new.self.trail (Appends-room c.args.moment old r r.room (ap (λ s. s.trail) c.reserve.ensures.same))
+    (Appends-trans c.args.moment old r c.append.new.self.trail (Appends-room c.args.moment old r r.room (ap (λ s. s.trail) c.reserve_beside.ensures.same))
     (Appends-adds an_entry r.lists c.args.moment (entry_of.CheckDry c.args.host) (fact.CheckDry c.args.host) r c.append.new.self.trail (AreLonger-refl r.lists)
     (c.append.ensures.adds (fact.CheckDry c.args.host) refl) (λ e. absurd (cc)) (kept-by_dry r.client c.args.moment r.point.state c.args.host)))
 
 pub returns-clause-reads : goal.returns-clause-reads
 returns-clause-reads g c =
     let runs = rw (← c.self.view_is) at c.requires.runs in
-    let r : Recorded = c.reserve.new.self.trail in
-    let point : r.point ≡ c.self.inside.wired.trail.point = ap (λ s. s.trail.point) c.reserve.ensures.same in
+    let r : Recorded = c.reserve_beside.new.wired.trail in
+    let point : r.point ≡ c.self.inside.wired.trail.point = ap (λ s. s.trail.point) c.reserve_beside.ensures.same in
     IsRead-dry r c.append.new.self.trail c.args.moment c.args.host runs.0 (entry_of.CheckDry c.args.host) (c.append.ensures.adds (fact.CheckDry c.args.host) refl)
     (ap (λ (p : Point). slice_get p.state.servers c.args.host) point ∙ runs.1)

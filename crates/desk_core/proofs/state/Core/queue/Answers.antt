@@ -1,13 +1,15 @@
-use Rattle.std.proofs.Common.{◌≡◌, ◌+◌, Some, length, ap, sym, ◌∙◌, subst, arith, None}
+use Rattle.std.proofs.Common.{◌≡◌, ◌+◌, Some, length, ap, sym, ◌∙◌, subst, arith, None, true}
 use Rattle.desk_trail.specs.declared.entry.Entry.TheVariants as entry_of
 use Rattle.desk_trail.specs.declared.room.Room.{Room}
+use Rattle.desk_trail.specs.Facts as fact
 use Rattle.desk_trail.specs.Legal.{Point}
+use Rattle.desk_trail.specs.Orders.{asks_for}
 use Rattle.desk_trail.specs.States.{ClientState}
 use Rattle.desk_trail.specs.Written.{IsAtLeast, a_request}
 use Rattle.wired_trail.specs.Lines.{line_at}
 use Rattle.legal_trail.specs.Recorded.{Recorded}
 use Rattle.wired_trail.specs.Hearing.{told_of}
-use Rattle.desk_core.proofs.AppendsLemmas.{grown-same, grown-trans}
+use Rattle.desk_core.proofs.AppendsLemmas.{Plain-own, grown-same, grown-trans}
 use Rattle.desk_core.proofs.AttemptLemmas.{IsKept-entry}
 use Rattle.desk_core.proofs.BesideLemmas.{GoesBeside-asked, IsOfCommand, KeepsCheckLines-conn, grown-asked}
 use Rattle.desk_core.proofs.KeptLemmas.{IsKept-room}
@@ -57,4 +59,5 @@ returns-clause-appends g c =
     rw (← c.self.view_is)
     (grown-trans c.args.at.moment old r c.send.new.wired.trail
     (grown-same c.args.at.moment old r (ap (λ (t : Recorded). t.client) e) (ap (λ (t : Recorded). t.lists) e) (ap (λ (t : Recorded). t.steps) e))
-    (grown-asked a_request c.args.at.moment (length r.lists.requests) (entry_of.Asked (length r.lists.requests)) c.args.made.request r c.send.new.wired.trail c.send.ensures.adds (λ t. absurd (cc))))
+    (grown-asked a_request c.args.at.moment (length r.lists.requests) (entry_of.Asked (length r.lists.requests)) c.args.made.request r c.send.new.wired.trail c.send.ensures.adds (λ t. absurd (cc))
+    (Plain-own c.args.at.op (fact.Asked (length r.lists.requests) c.args.made.request) (λ o named. subst (λ p. asks_for o p ≡ true) c.requires.request.is_for named) (λ x y. tt) (λ own. tt))))

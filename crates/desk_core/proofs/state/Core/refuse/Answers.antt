@@ -1,5 +1,5 @@
 use Rattle.net_link.specs.Causes.{Rose}
-use Rattle.desk_core.specs.Appends.{Appends}
+use Rattle.desk_core.specs.Appends.{AppendsOf, IsOfOp}
 use Rattle.desk_core.specs.Commands.{MovesOne}
 use Rattle.desk_core.proofs.AppendsLemmas.{grown-trans, grown-weaken}
 use Rattle.desk_core.proofs.BesideLemmas.{MovesOne-trans}
@@ -19,5 +19,5 @@ pub returns-clause-appends : goal.returns-clause-appends
 returns-clause-appends g c =
     grown-trans c.args.at.moment c.args.self.now.trail c.write_too_large.new.self.trail c.check_in.new.self.trail
     (grown-weaken c.args.at.moment c.args.self.now.trail c.write_too_large.new.self.trail (λ e. absurd e) c.write_too_large.ensures.appends)
-    (subst (λ n. Appends (Rose (g.N.Net.faults n) (g.N.Net.faults c.check_in.new.self.net)) c.args.at.moment c.write_too_large.new.self.trail c.check_in.new.self.trail)
+    (subst (λ n. AppendsOf (Rose (g.N.Net.faults n) (g.N.Net.faults c.check_in.new.self.net)) (IsOfOp c.args.at.op) c.args.at.moment c.write_too_large.new.self.trail c.check_in.new.self.trail)
     c.write_too_large.ensures.net c.check_in.ensures.appends)

@@ -3,7 +3,7 @@ use Rattle.std.specs.Prelude.{IfSome}
 use Rattle.sess_book.specs.Ids.{id_of}
 use Rattle.desk_core.specs.Steps.{MeansGoing}
 use Rattle.desk_core.specs.declared.sight.Sight.{Sight}
-use Rattle.desk_core.proofs.GoingLemmas.{HasGone-then, IfOk-by, MeansStep-behind, MeansStep-going}
+use Rattle.desk_core.proofs.GoingLemmas.{Appends-then, HasGone-then, IfOk-by, MeansStep-behind, MeansStep-going}
 use Rattle.desk_core.proofs.OfferLemmas.{OnOk-by}
 use Rattle.desk_core.proofs.state.Core.step.Goals as goal
 
@@ -23,5 +23,10 @@ pub returns-in-None-clause-sight : goal.returns-in-None-clause-sight
 returns-in-None-clause-sight g c =
     IfOk-by c.look_and_go.result _ _
     (λ s h. MeansStep-behind c.args.at.moment c.args.at.op c.args.words c.args.self.now.trail c.go_counted.new.self.trail c.look_and_go.new.self.trail s
-    c.go_counted.ensures.appends h)
+    c.go_counted.ensures.appends.appends h)
     c.look_and_go.ensures.sight
+
+pub returns-in-None-clause-appends : goal.returns-in-None-clause-appends
+returns-in-None-clause-appends g c =
+    Appends-then _ _ _ c.args.at.moment c.args.self.now.trail c.go_counted.new.self.trail c.look_and_go.new.self.trail c.go_counted.ensures.faults c.look_and_go.ensures.faults
+    c.go_counted.ensures.appends c.look_and_go.ensures.appends

@@ -91,3 +91,8 @@ end_attempt-requires-clause-heard g c = λ tells.
     (λ s. ap (λ w. seen s (g.N.Net.history w.net)) same) (λ s. ap (λ w. told_of w.trail s) same)
     (subst (λ (t : Recorded). WasHeard (g.N.Net.history c.self.inside.wired.net) r (mention_of t.client t.point.state c.args.at.moment (fact.Ended c.args.at.op c.args.end)))
     (sym (ap (λ w. w.trail) same)) heard)
+
+pub end_attempt-requires-clause-counted : goal.end_attempt-requires-clause-counted
+end_attempt-requires-clause-counted g c = λ fault.
+    let untold = rw (← c.self.view_is) at (c.requires.counted fault) in
+    rw (c.reserve.ensures.same) untold

@@ -1,0 +1,15 @@
+use Rattle.sess_book.specs.Ids.{id_of}
+use Rattle.desk_core.proofs.AppendsLemmas.{grown-by_lease}
+use Rattle.desk_core.proofs.state.Core.go_counted.Goals as goal
+
+pub returns-in_err-sight-clause-appends : goal.returns-in_err-sight-clause-appends
+returns-in_err-sight-clause-appends g c =
+    grown-by_lease c.args.at.moment c.args.at.op c.args.words.a c.args.words.b (id_of c.args.words.c c.args.words.d) c.args.self.now.trail c.go.new.self.trail c.go.ensures.appends
+
+pub returns-in_err-move_one-clause-appends : goal.returns-in_err-move_one-clause-appends
+returns-in_err-move_one-clause-appends g c =
+    grown-by_lease c.args.at.moment c.args.at.op c.args.words.a c.args.words.b (id_of c.args.words.c c.args.words.d) c.args.self.now.trail c.go.new.self.trail c.go.ensures.appends
+
+pub returns-clause-appends : goal.returns-clause-appends
+returns-clause-appends g c =
+    grown-by_lease c.args.at.moment c.args.at.op c.args.words.a c.args.words.b (id_of c.args.words.c c.args.words.d) c.args.self.now.trail c.go.new.self.trail c.go.ensures.appends

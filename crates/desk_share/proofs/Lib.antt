@@ -1,0 +1,5 @@
+mod HeardLemmas
+mod LaneLemmas
+mod MomentLemmas
+mod SharedLemmas
+mod WordLemmas

@@ -1,3 +1,4 @@
+mod ObjectLemmas
 pub mod Lists
 pub mod SieveLemmas
 pub mod MapLemmas

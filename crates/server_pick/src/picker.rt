@@ -34,3 +34,17 @@ impl Picker for KeepAll {
         true
     }
 }
+
+/// A boxed picker allows what the picker inside allows.
+impl Picker for Box<dyn Picker> {
+    ghost use Rattle.std.specs.Prelude.{◌≡◌};
+    ghost use Rattle.server_pick.specs.Objects.{held};
+
+    ghost allows = { λ b c. (Picker-box b).allows b.value c };
+
+    ghost follows = { λ b c d. (w : _) × (Picker-box b).follows b.value c w × (held d ≡ (b.vtable, w)) };
+
+    fn keep(&mut self, candidate: &Candidate) -> bool {
+        self.as_mut().keep(candidate)
+    }
+}

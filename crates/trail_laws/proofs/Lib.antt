@@ -1,4 +1,5 @@
 mod AnswerLemmas
+mod StayLemmas
 mod ListLemmas
 mod OwedLemmas
 mod ServerLemmas

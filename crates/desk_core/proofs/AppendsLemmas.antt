@@ -36,7 +36,7 @@ use Rattle.desk_trail.specs.Written.{step_of}
 use Rattle.legal_trail.specs.Recorded.{Adds, Recorded, told_in}
 use Rattle.net_link.specs.Causes.{Rose}
 use Rattle.wired_trail.specs.Faults.{tells_fault}
-use Rattle.desk_core.specs.Appends.{Appends, AppendsAside, AppendsOf, IsBy, IsLonger, IsOfLease, IsOfLook, IsOfOp, KeepsCommands, LeasesBy, LooksBy, NamesNone, NamesOnly, Tells, tell_fault}
+use Rattle.desk_core.specs.Appends.{Appends, AppendsAside, AppendsOf, IsBy, IsLonger, IsOfLease, IsOfLook, IsOfOp, KeepsCommands, LeasesBy, LooksBy, NamesNone, Tells, tell_fault}
 
 -- ---- Lists that are longer
 
@@ -109,14 +109,14 @@ appends-weaken {R} {S} moment old new f a = record {
 tells-same : {P : Fact → Type 0} (old new : List (Timed Fact)) → new ≡ old → Tells P old new
 tells-same {P} old new e = record { more = []; facts = e ∙ sym (append-nil old); each = All-nil (λ (t : Timed Fact). P t.what) }
 
-tells-trans : {P : Fact → Type 0} (old between new : List (Timed Fact)) → Tells P old between → Tells P between new → Tells P old new
+pub tells-trans : {P : Fact → Type 0} (old between new : List (Timed Fact)) → Tells P old between → Tells P between new → Tells P old new
 tells-trans {P} old between new a b = record {
   more = a.more ++ b.more;
   facts = b.facts ∙ ap (λ l. l ++ b.more) a.facts ∙ append_assoc old a.more b.more;
   each = All-append (λ (t : Timed Fact). P t.what) a.more b.more a.each b.each;
 }
 
-all-weaken : {P Q : Fact → Type 0} → ((f : Fact) → P f → Q f) → (ts : List (Timed Fact)) → All (λ (t : Timed Fact). P t.what) ts → All (λ (t : Timed Fact). Q t.what) ts
+pub all-weaken : {P Q : Fact → Type 0} → ((f : Fact) → P f → Q f) → (ts : List (Timed Fact)) → All (λ (t : Timed Fact). P t.what) ts → All (λ (t : Timed Fact). Q t.what) ts
 all-weaken {P} {Q} h [] a = All-nil (λ (t : Timed Fact). Q t.what)
 all-weaken {P} {Q} h (t ∷ ts) a =
     All-cons (λ (x : Timed Fact). Q x.what) t ts (h t.what (All-head (λ (x : Timed Fact). P x.what) t ts a)) (all-weaken h ts (All-tail (λ (x : Timed Fact). P x.what) t ts a))

@@ -21,6 +21,7 @@ mod DriveLemmas
 mod RestLemmas
 mod SightLemmas
 mod LookLemmas
+mod PickLemmas
 mod BesideLemmas
 mod CountLemmas
 mod DeskLemmas

@@ -20,7 +20,7 @@ use Rattle.desk_trail.specs.Checks.{AtServer, Runs, asked, with_checks}
 use Rattle.desk_trail.specs.Clients.{Client, select_limit, threshold}
 use Rattle.desk_trail.specs.Facts.{Lists, facts_of}
 use Rattle.desk_trail.specs.Facts as fact
-use Rattle.desk_trail.specs.Legal.{InTime, MayGoOn, Point, StandsAt, client_after, point_behind}
+use Rattle.desk_trail.specs.Legal.{InTime, MayGoOn, Point, StandsAt, point_behind}
 use Rattle.desk_trail.specs.Looks.{Concludes, IsLook, deadline, first_look, load_of, look_by, looked_after}
 use Rattle.desk_trail.specs.Owed.{InTurn}
 use Rattle.desk_trail.specs.States.{ClientState, CommandState, Selection, ServerState, changed_at}
@@ -30,7 +30,8 @@ use Rattle.wired_trail.specs.Lines.{Lines as WireLines}
 use Rattle.cmd_step.specs.Looked.{servers_behind}
 use Rattle.desk_core.specs.Appends.{AppendsOf, NamesNone}
 use Rattle.desk_core.specs.Kept.{IsKept, LeadsTo, client_of}
-use Rattle.desk_core.specs.Looks.{HasLooked, IsAnswerOf, IsPicked, IsRead, StillSelects}
+use Rattle.desk_core.specs.Looks.{HasLooked, IsAnswerOf, IsRead, StillSelects}
+use Rattle.desk_core.specs.Picks.{IsPicked}
 use Rattle.desk_core.specs.declared.progress.Progress.{Progress}
 use Rattle.desk_core.specs.Servers.{AreKeptServers, IsKeptServer, closing_of, closings}
 use Rattle.desk_core.specs.Steps.{IsWaiting, for_server}

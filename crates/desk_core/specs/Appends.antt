@@ -75,6 +75,10 @@ pub record Tells (says : Fact → Type 0) (old new : List (Timed Fact)) : Type 0
 abbrev pub TellsOf : ℕ → Words → (old new : Recorded) → Type 0
 TellsOf op words old new = Tells (IsBy op words.a words.b (id_of words.c words.d)) (told_in old) (told_in new)
 
+-- No entry is of a command.
+abbrev pub TellsNone : List (Timed Fact) → Type 0
+TellsNone ts = All (λ (t : Timed Fact). NamesNone t.what) ts
+
 -- What is appended is of no command.
 abbrev pub TellsAside : (old new : Recorded) → Type 0
 TellsAside old new = Tells NamesNone (told_in old) (told_in new)

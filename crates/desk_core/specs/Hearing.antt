@@ -1,5 +1,5 @@
 -- What private functions hand on of what was heard on a stream, from the turn that heard it to the entry that tells it.
-use Rattle.std.specs.Prelude.{◌≡◌, ◌≢◌, ℕ, ℤ, Bool, List, Option, None, Some, IfSome, nat_le}
+use Rattle.std.specs.Prelude.{◌≡◌, ℕ, ℤ, List, Option, None, Some, IfSome, nat_le}
 use Rattle.bson_doc.specs.declared.cluster_time.ClusterTime.{ClusterTime}
 use Rattle.cmd_outcome.specs.Times.{time_in}
 use Rattle.cmd_reply.specs.Results.{attempt_result_of, greeting_result_of}

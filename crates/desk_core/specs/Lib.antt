@@ -20,6 +20,7 @@ pub mod CheckLines
 pub mod Counts
 pub mod Nexts
 pub mod Running
+pub mod Picks
 pub mod Looks
 pub mod Equips
 pub mod Lending

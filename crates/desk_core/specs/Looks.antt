@@ -1,8 +1,6 @@
 -- What private functions say of a look, and of the checks that are read ahead of one (Server Selection).
 use Rattle.std.specs.Prelude.{◌≡◌, ◌≢◌, ◌<◌, ◌⊎◌, ℕ, Bool, false, List, ◌∷◌, ◌++◌, None, Some, slice_get}
-use Rattle.cmd_build.specs.declared.command.Command.{Command}
 use Rattle.server_pick.specs.declared.candidate.Candidate.{Candidate}
-use Rattle.server_look.specs.Inputs.{IsRunBy}
 use Rattle.write_retry.specs.declared.events.Next.TheVariants as next
 use Rattle.desk_trail.specs.declared.entry.Entry.TheVariants as entry
 use Rattle.desk_trail.specs.declared.entry.LookedHow.{LookedHow}
@@ -16,6 +14,7 @@ use Rattle.desk_trail.specs.States.{ClientState, CommandState, Selection, Server
 use Rattle.desk_trail.specs.Written.{step_of}
 use Rattle.legal_trail.specs.Recorded.{Recorded}
 use Rattle.desk_core.specs.Appends.{AppendsOf, NamesNone}
+use Rattle.desk_core.specs.Picks.{IsPicked}
 use Rattle.desk_core.specs.declared.progress.Progress.{Progress}
 use Rattle.desk_core.specs.declared.progress.Progress.TheVariants as progress
 
@@ -26,14 +25,6 @@ pub record StillSelects (client : Client) (moment : ℕ) (old new : CommandState
   pub first : selection.first ≡ first_look old moment
   pub selects : new.op.next ≡ next.Select
   pub ahead : moment < deadline client old moment
-
--- The servers that were kept are those that the picker allowed, asked of each candidate for the client's command of that number
--- (Server Selection, serverSelector).
-pub record IsPicked {P : Type 0} (allows : P → Candidate → Bool) (follows : P → Candidate → P → Type 0)
-    (client : Client) (w : ClientState) (op : ℕ) (c : CommandState) (old : P) (kept : List ℕ) (new : P) : Type 0 where
-  pub command : Command
-  pub given : slice_get client.commands op ≡ Some command
-  pub run : IsRunBy allows follows client w command.act c old kept new
 
 -- A look that found none is answered by waiting, every other by going on in the step (own: the answers).
 abbrev pub IsAnswerOf : Progress → LookedHow → Type 0

@@ -3,13 +3,14 @@ ghost use Rattle.net_link.specs.Causes.{Rose};
 ghost use Rattle.desk_trail.specs.Facts.{facts_of};
 ghost use Rattle.desk_trail.specs.Legal.{IsComplete, IsLegal, point_behind};
 ghost use Rattle.desk_trail.specs.Written.{lists_of};
-ghost use Rattle.legal_trail.specs.Recorded.{Recorded};
-ghost use Rattle.desk_core.specs.Appends.{Appends, AreQuiet, NamesNone, Tells, TellsAside, TellsOf};
+ghost use Rattle.legal_trail.specs.Recorded.{Recorded, told_in};
+ghost use Rattle.desk_core.specs.Appends.{Appends, AreQuiet, NamesNone, Tells, TellsAside, TellsNone, TellsOf};
 ghost use Rattle.desk_core.specs.Due.{IsNext};
 ghost use Rattle.desk_core.specs.Ending.{ArePoolsShut};
 ghost use Rattle.desk_core.specs.Sights.{MeansCheck};
 ghost use Rattle.desk_trail.specs.Attempts.{AtCommand};
-ghost use Rattle.desk_core.specs.Nexts.{IsNextIn};
+ghost use Rattle.desk_core.specs.Nexts.{AreAnsweredAhead, IsNextIn};
+ghost use Rattle.desk_core.specs.Picks.{AsksPicker};
 ghost use Rattle.desk_core.specs.State.{AreShallow, now_of};
 ghost use Rattle.desk_core.specs.Steps.{MeansStep};
 ghost use Rattle.wired_trail.specs.Faults.{IsCounted};
@@ -88,6 +89,7 @@ impl<N: Net, P: Picker> Desk<N, P> {
         ensures client { IfOk result (λ d. d.trail.client ≡ record { settings = settings; commands = commands; began = min moment (2 ^ 62) }) }
         ensures now { IfOk result (λ d. d.last ≡ min moment (2 ^ 62)) }
         ensures quiet { IfOk result (λ d. AreQuiet (min moment (2 ^ 62)) d.trail.steps) }
+        ensures names { IfOk result (λ d. TellsNone (told_in d.trail)) }
         ensures runs { IfOk result (λ d. d.is_stopped ≡ false) }
         ensures net { IfOk result (λ d. d.net ≡ net) }
         ensures picker { IfOk result (λ d. d.picker ≡ picker) }
@@ -131,6 +133,13 @@ impl<N: Net, P: Picker> Desk<N, P> {
         self.core.wired.steps()
     }
 
+    /// The commands that it was given.
+    pub fn commands(&self) -> &[Command]
+        ensures value { result.now ≡ self.now.trail.client.commands }
+    {
+        self.core.commands()
+    }
+
     /// The names of the hosts, by their numbers.
     pub fn names(&self) -> &[Host]
         ensures value { result.now ≡ self.now.trail.lists.names }
@@ -159,7 +168,8 @@ impl<N: Net, P: Picker> Desk<N, P> {
     /// once: it found no session to lease, since the id of `words.c` and `words.d` was used before, and leases one by other words;
     /// or its attempt ended behind this step's look, and it looks for a server once more. After `Memory` the desk is stopped.
     /// What it appends of a command is of this one, also where it stops; a look among it is by `words.a` and `words.b`, and a session
-    /// that it leases fresh has the id of `words.c` and `words.d`.
+    /// that it leases fresh has the id of `words.c` and `words.d`. What a look kept is what the picker allowed, which is asked of each
+    /// candidate then, and not in a step without a look.
     pub fn step_op(
         &mut self,
         alloc: Global,
@@ -173,6 +183,7 @@ impl<N: Net, P: Picker> Desk<N, P> {
         ensures sight { IfOk result (MeansStep (now_of self.old.last moment) op words self.old.trail self.new.trail) }
         ensures appends { Appends (Rose (N.faults self.old.net) (N.faults self.new.net)) (now_of self.old.last moment) self.old.trail self.new.trail }
         ensures names { TellsOf op words self.old.trail self.new.trail }
+        ensures asks { OnOk result (AsksPicker P.allows P.follows (now_of self.old.last moment) op self.old.trail self.new.trail self.old.picker self.new.picker) }
         ensures ok { OnOk result (self.new.is_stopped ≡ false) }
         ensures err { OnErr result (self.new.is_stopped ≡ true) }
         ensures faults { N.faults self.old.net ≤ N.faults self.new.net }
@@ -192,7 +203,16 @@ impl<N: Net, P: Picker> Desk<N, P> {
         requires runs { self.now.is_stopped ≡ false }
         ensures next { IsNextIn self.now.trail.client self.now.trail.point.state lane result }
     {
-        next_in(self.core.commands(), self.operations.as_slice(), lane)
+        self.next_from(lane, 0)
+    }
+
+    /// The same, where each command of the lane ahead of a place is answered: those are not looked at again.
+    pub fn next_from(&self, lane: u32, from: u32) -> Option<u32>
+        requires runs { self.now.is_stopped ≡ false }
+        requires ahead { AreAnsweredAhead self.now.trail.client self.now.trail.point.state lane from }
+        ensures next { IsNextIn self.now.trail.client self.now.trail.point.state lane result }
+    {
+        next_in(self.core.commands(), self.operations.as_slice(), lane, from)
     }
 
     /// Begins, drives or ends the check of one server (Server Monitoring). `moment` is in microseconds; what is appended to the
@@ -206,6 +226,7 @@ impl<N: Net, P: Picker> Desk<N, P> {
         ensures sight { IfOk result (MeansCheck self.new.trail.client self.new.trail.point.state (now_of self.old.last moment) host) }
         ensures appends { Appends (Rose (N.faults self.old.net) (N.faults self.new.net)) (now_of self.old.last moment) self.old.trail self.new.trail }
         ensures names { TellsAside self.old.trail self.new.trail }
+        ensures picker { self.new.picker ≡ self.old.picker }
         ensures ok { OnOk result (self.new.is_stopped ≡ false) }
         ensures err { OnErr result (self.new.is_stopped ≡ true) }
         ensures faults { N.faults self.old.net ≤ N.faults self.new.net }

@@ -1,18 +1,21 @@
-ghost use Rattle.std.specs.Prelude.{◌≡◌, ◌≢◌, ◌≤◌, ◌<◌, ◌^◌, ℕ, true, false, Some, IfOk, OnOk, slice_get, unwrap_or};
+ghost use Rattle.std.specs.Prelude.{◌≡◌, ◌≢◌, ◌≤◌, ◌<◌, ◌^◌, ◌++◌, ◌∷◌, [], ℕ, true, false, Some, IfOk, OnOk, slice_get, unwrap_or};
 ghost use Rattle.net_link.specs.Causes.{Rose};
 ghost use Rattle.write_retry.specs.declared.events.Next.TheVariants as next_of;
 ghost use Rattle.desk_trail.specs.declared.entry.LookedHow.TheVariants as how_as;
 ghost use Rattle.desk_trail.specs.declared.entry.Entry.TheVariants as entry_of;
 ghost use Rattle.desk_trail.specs.Facts.{facts_of};
+ghost use Rattle.desk_trail.specs.Facts as fact;
 ghost use Rattle.desk_trail.specs.Legal.{point_behind};
 ghost use Rattle.desk_trail.specs.Looks.{IsLook, deadline, first_look, in_flight, look_owes};
 ghost use Rattle.desk_trail.specs.Written.{with_entry};
+ghost use Rattle.legal_trail.specs.Recorded.{told_in};
 ghost use Rattle.server_look.specs.Inputs.{IsDescribed};
 ghost use Rattle.cmd_step.specs.Looked.{servers_behind};
 ghost use Rattle.desk_core.specs.Appends.{AppendsAside, AppendsOf, IsOfLook};
 ghost use Rattle.desk_core.specs.Commands.{IsAtWork, MovesOne};
 ghost use Rattle.desk_core.specs.Kept.{IsReady, IsWriting};
-ghost use Rattle.desk_core.specs.Looks.{HasLooked, IsPicked, StillSelects};
+ghost use Rattle.desk_core.specs.Looks.{HasLooked, StillSelects};
+ghost use Rattle.desk_core.specs.Picks.{IsPicked, LooksOnce};
 ghost use Rattle.desk_core.specs.Steps.{MeansPhase};
 
 use crate::Memory;
@@ -120,6 +123,8 @@ impl<N: Net> Core<N> {
         ensures moves { OnOk result (MovesOne op operation.new self.old.trail self.new.trail) }
         ensures tells { OnOk result (self.new.trail.steps
             ≡ with_entry self.old.trail.steps moment (entry_of.Looked op words.0 words.1 answer.kept answer.how)) }
+        ensures told { OnOk result (told_in self.new.trail
+            ≡ told_in self.old.trail ++ record { at = moment; what = fact.Looked op words.0 words.1 answer.kept answer.how } ∷ []) }
         ensures waits { OnOk result (answer.how ≡ how_as.NoneFits → StillSelects self.old.trail.client moment operation.old operation.new) }
         ensures faults { N.faults self.old.net ≤ N.faults self.new.net }
         ensures appends { AppendsOf ⊥ (IsOfLook op words.0 words.1) moment self.old.trail self.new.trail }
@@ -184,6 +189,7 @@ impl<N: Net> Core<N> {
         ensures means { IfOk result (MeansPhase self.old.trail.client self.new.trail.point.state moment operation.new) }
         ensures looked { IfOk result (HasLooked P.allows P.follows (Rose (N.faults self.old.net) (N.faults self.new.net)) moment op
             looker.entry.words.0 looker.entry.words.1 operation.old self.old.trail self.new.trail picker.old picker.new) }
+        ensures picks { OnOk result (LooksOnce P.allows P.follows moment op self.old.trail self.new.trail picker.old picker.new) }
         ensures faults { N.faults self.old.net ≤ N.faults self.new.net }
         ensures appends { AppendsOf (Rose (N.faults self.old.net) (N.faults self.new.net)) (IsOfLook op looker.entry.words.0 looker.entry.words.1) moment self.old.trail self.new.trail }
     {

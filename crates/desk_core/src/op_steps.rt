@@ -3,9 +3,11 @@ ghost use Rattle.std.specs.Prelude.{◌≡◌, ◌≤◌, IfNone, IfOk, IfSome, 
 ghost use Rattle.net_link.specs.Causes.{Rose};
 ghost use Rattle.sess_book.specs.Ids.{id_of};
 ghost use Rattle.write_retry.specs.declared.events.Next.TheVariants as next_of;
-ghost use Rattle.desk_core.specs.Appends.{AppendsOf, IsBy};
+ghost use Rattle.legal_trail.specs.Recorded.{told_in};
+ghost use Rattle.desk_core.specs.Appends.{AppendsOf, IsBy, Tells};
 ghost use Rattle.desk_core.specs.Commands.{HasGone, IsInStep, IsShallow};
 ghost use Rattle.desk_core.specs.Counts.{IsCounted};
+ghost use Rattle.desk_core.specs.Picks.{AsksPicker, IsNoLook, LooksOnce};
 ghost use Rattle.desk_core.specs.Steps.{HasFound, MeansGoing, MeansPhase, MeansStep};
 ghost use Rattle.desk_core.specs.declared.progress.Progress.TheVariants as progress;
 
@@ -39,6 +41,7 @@ impl<N: Net> Core<N> {
         ensures sight { IfOk result (λ r. IfSome r (MeansGoing at.moment at.op (id_of words.c words.d) self.new.trail)) }
         ensures looks { IfOk result (λ r. IfNone r (operation.new.op.next ≡ next_of.Select)) }
         ensures picker { parts.new.picker ≡ parts.old.picker }
+        ensures unlooked { Tells IsNoLook (told_in self.old.trail) (told_in self.new.trail) }
         ensures appends { AppendsOf (Rose (N.faults self.old.net) (N.faults self.new.net)) (IsBy at.op words.a words.b (id_of words.c words.d)) at.moment self.old.trail self.new.trail }
         ensures faults { N.faults self.old.net ≤ N.faults self.new.net }
     {
@@ -69,6 +72,7 @@ impl<N: Net> Core<N> {
         ensures counted { OnOk result (IsCounted parts.new.in_flight self.new.trail.point.state.commands) }
         ensures means { IfOk result (MeansPhase self.old.trail.client self.new.trail.point.state at.moment operation.new) }
         ensures found { IfOk result (λ p. p ≡ progress.Done → HasFound at.moment at.op words.a words.b self.old.trail self.new.trail) }
+        ensures picks { OnOk result (LooksOnce P.allows P.follows at.moment at.op self.old.trail self.new.trail parts.old.picker parts.new.picker) }
         ensures appends { AppendsOf (Rose (N.faults self.old.net) (N.faults self.new.net)) (IsBy at.op words.a words.b (id_of words.c words.d)) at.moment self.old.trail self.new.trail }
         ensures faults { N.faults self.old.net ≤ N.faults self.new.net }
     {
@@ -106,6 +110,7 @@ impl<N: Net> Core<N> {
         ensures gone { OnOk result (HasGone self.old self.new at.moment at.op operation.new parts.new.sessions) }
         ensures counted { OnOk result (IsCounted parts.new.in_flight self.new.trail.point.state.commands) }
         ensures sight { IfOk result (MeansStep at.moment at.op words self.old.trail self.new.trail) }
+        ensures picks { OnOk result (LooksOnce P.allows P.follows at.moment at.op self.old.trail self.new.trail parts.old.picker parts.new.picker) }
         ensures appends { AppendsOf (Rose (N.faults self.old.net) (N.faults self.new.net)) (IsBy at.op words.a words.b (id_of words.c words.d)) at.moment self.old.trail self.new.trail }
         ensures faults { N.faults self.old.net ≤ N.faults self.new.net }
     {
@@ -134,6 +139,7 @@ impl<N: Net> Core<N> {
         ensures gone { OnOk result (HasGone self.old self.new at.moment at.op operation.new parts.new.sessions) }
         ensures counted { OnOk result (IsCounted parts.new.in_flight self.new.trail.point.state.commands) }
         ensures sight { IfOk result (MeansStep at.moment at.op words self.old.trail self.new.trail) }
+        ensures asks { OnOk result (AsksPicker P.allows P.follows at.moment at.op self.old.trail self.new.trail parts.old.picker parts.new.picker) }
         ensures appends { AppendsOf (Rose (N.faults self.old.net) (N.faults self.new.net)) (IsBy at.op words.a words.b (id_of words.c words.d)) at.moment self.old.trail self.new.trail }
         ensures faults { N.faults self.old.net ≤ N.faults self.new.net }
     {

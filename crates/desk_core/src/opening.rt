@@ -1,10 +1,11 @@
 ghost use Rattle.std.specs.Prelude.{◌≡◌, ◌≤◌, ◌^◌, [], false, length, map, IfErr, IfOk, OnOk};
+ghost use Rattle.legal_trail.specs.Recorded.{told_in};
 ghost use Rattle.sess_book.specs.Sessions.{no_sessions};
 ghost use Rattle.topo_rules.specs.Rules.{opened};
 ghost use Rattle.desk_trail.specs.Legal.{beginning};
 ghost use Rattle.desk_trail.specs.States.{fresh_command};
 ghost use Rattle.desk_trail.specs.Written.{no_lists};
-ghost use Rattle.desk_core.specs.Appends.{AppendsAside, AreQuiet};
+ghost use Rattle.desk_core.specs.Appends.{AppendsAside, AreQuiet, TellsNone};
 ghost use Rattle.desk_core.specs.Kept.{IsReady};
 
 use crate::Memory;
@@ -67,6 +68,7 @@ pub fn core_of<N: Net>(
     ensures client { IfOk result (λ d. d.trail.client ≡ record { settings = settings; commands = commands; began = moment }) }
     ensures ready { IfOk result (λ d. IsReady d moment) }
     ensures quiet { IfOk result (λ d. AreQuiet moment d.trail.steps) }
+    ensures names { IfOk result (λ d. TellsNone (told_in d.trail)) }
     ensures net { IfOk result (λ d. d.net ≡ net) }
     ensures commands { IfOk result (λ d. d.trail.point.state.commands ≡ map fresh_command commands) }
     ensures sessions { IfOk result (λ d. d.trail.point.state.sessions ≡ no_sessions) }

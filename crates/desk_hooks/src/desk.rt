@@ -5,15 +5,16 @@ ghost use Rattle.desk_trail.specs.Attempts.{AtCommand};
 ghost use Rattle.desk_trail.specs.Facts.{ArePlaced, Fact, facts_of};
 ghost use Rattle.desk_trail.specs.Legal.{IsComplete, IsLegal, point_behind};
 ghost use Rattle.desk_trail.specs.Written.{lists_of};
-ghost use Rattle.legal_trail.specs.Recorded.{Recorded};
+ghost use Rattle.legal_trail.specs.Recorded.{Recorded, told_in};
 ghost use Rattle.wired_trail.specs.Faults.{IsCounted};
 ghost use Rattle.wired_trail.specs.Wired.{IsWired};
 ghost use Rattle.write_effects.specs.Each.{EachTakesEffectOnce};
-ghost use Rattle.desk_core.specs.Appends.{Appends, AreQuiet, NamesNone, Tells, TellsAside, TellsOf};
+ghost use Rattle.desk_core.specs.Appends.{Appends, AreQuiet, NamesNone, Tells, TellsAside, TellsNone, TellsOf};
 ghost use Rattle.desk_core.specs.Due.{IsNext};
 ghost use Rattle.desk_core.specs.Ending.{ArePoolsShut};
-ghost use Rattle.desk_core.specs.Nexts.{IsNextIn};
+ghost use Rattle.desk_core.specs.Nexts.{AreAnsweredAhead, IsNextIn};
 ghost use Rattle.desk_core.specs.Sights.{MeansCheck};
+ghost use Rattle.desk_core.specs.Picks.{AsksPicker};
 ghost use Rattle.desk_core.specs.State.{AreShallow, now_of};
 ghost use Rattle.desk_core.specs.Steps.{MeansStep};
 ghost use Rattle.trail_events.specs.Told.{told};
@@ -102,6 +103,7 @@ impl<N: Net, P: Picker, L: Listener> HookedDesk<N, P, L> {
             d.desk.trail.client ≡ record { settings = settings; commands = commands; began = min moment (2 ^ 62) }) }
         ensures now { IfOk result (λ d. d.desk.last ≡ min moment (2 ^ 62)) }
         ensures quiet { IfOk result (λ d. AreQuiet (min moment (2 ^ 62)) d.desk.trail.steps) }
+        ensures names { IfOk result (λ d. TellsNone (told_in d.desk.trail)) }
         ensures runs { IfOk result (λ d. d.desk.is_stopped ≡ false) }
         ensures net { IfOk result (λ d. d.desk.net ≡ net) }
         ensures picker { IfOk result (λ d. d.desk.picker ≡ picker) }
@@ -147,6 +149,13 @@ impl<N: Net, P: Picker, L: Listener> HookedDesk<N, P, L> {
         self.desk.steps()
     }
 
+    /// The commands that it was given.
+    pub fn commands(&self) -> &[Command]
+        ensures value { result.now ≡ self.now.desk.trail.client.commands }
+    {
+        self.desk.commands()
+    }
+
     /// The names of the hosts, by their numbers.
     pub fn names(&self) -> &[Host]
         ensures value { result.now ≡ self.now.desk.trail.lists.names }
@@ -187,6 +196,8 @@ impl<N: Net, P: Picker, L: Listener> HookedDesk<N, P, L> {
         ensures appends { Appends (Rose (N.faults self.old.desk.net) (N.faults self.new.desk.net)) (now_of self.old.desk.last moment)
             self.old.desk.trail self.new.desk.trail }
         ensures names { TellsOf op words self.old.desk.trail self.new.desk.trail }
+        ensures asks { OnOk result (AsksPicker P.allows P.follows (now_of self.old.desk.last moment) op self.old.desk.trail self.new.desk.trail
+            self.old.desk.picker self.new.desk.picker) }
         ensures ok { OnOk result (self.new.desk.is_stopped ≡ false) }
         ensures err { OnErr result (self.new.desk.is_stopped ≡ true) }
         ensures faults { N.faults self.old.desk.net ≤ N.faults self.new.desk.net }
@@ -208,6 +219,15 @@ impl<N: Net, P: Picker, L: Listener> HookedDesk<N, P, L> {
         self.desk.next_of(lane)
     }
 
+    /// The same, where each command of the lane ahead of a place is answered, as [`Desk::next_from`].
+    pub fn next_from(&self, lane: u32, from: u32) -> Option<u32>
+        requires runs { self.now.desk.is_stopped ≡ false }
+        requires ahead { AreAnsweredAhead self.now.desk.trail.client self.now.desk.trail.point.state lane from }
+        ensures next { IsNextIn self.now.desk.trail.client self.now.desk.trail.point.state lane result }
+    {
+        self.desk.next_from(lane, from)
+    }
+
     /// Begins, drives or ends the check of one server, as [`Desk::step_check`], and tells what that appended.
     ///
     /// # Errors
@@ -221,6 +241,7 @@ impl<N: Net, P: Picker, L: Listener> HookedDesk<N, P, L> {
         ensures appends { Appends (Rose (N.faults self.old.desk.net) (N.faults self.new.desk.net)) (now_of self.old.desk.last moment)
             self.old.desk.trail self.new.desk.trail }
         ensures names { TellsAside self.old.desk.trail self.new.desk.trail }
+        ensures picker { self.new.desk.picker ≡ self.old.desk.picker }
         ensures ok { OnOk result (self.new.desk.is_stopped ≡ false) }
         ensures err { OnErr result (self.new.desk.is_stopped ≡ true) }
         ensures faults { N.faults self.old.desk.net ≤ N.faults self.new.desk.net }

@@ -1,10 +1,16 @@
 use Rattle.std.proofs.Common.{◌<◌, [], sym, ap, subst}
 use Rattle.std.proofs.lemmas.List.{append-nil}
+use Rattle.std.proofs.lemmas.List.Elements.{All-nil}
+use Rattle.entry_judge.specs.declared.timed.Timed.{Timed}
+use Rattle.desk_trail.specs.Facts.{Fact}
+use Rattle.legal_trail.specs.Recorded.{told_in}
+use Rattle.desk_core.specs.Appends.{NamesNone}
 use Rattle.net_link.specs.Causes.{Rose}
 use Rattle.desk_core.specs.declared.progress.Progress.TheVariants as progress
 use Rattle.desk_core.proofs.AnsweredLooks.{IsAtWork-behind, IsReady-found, IsWriting-owed, Rose-later, counts-behind, grown-three, grown-two, means-wait, moves-three, moves-two}
 use Rattle.desk_core.proofs.AppendsLemmas.{grown-looks, grown-weaken}
 use Rattle.desk_core.proofs.LookLemmas.{HasLooked-by}
+use Rattle.desk_core.proofs.PickLemmas.{LooksOnce-by}
 use Rattle.desk_core.proofs.state.Core.look.Goals as goal
 
 pub ask_for-requires-clause-work : goal.ask_for-requires-clause-work
@@ -107,3 +113,21 @@ returns-clause-looked g c =
     c.read_when_late.ensures.appends.appends)
     c.ask_for.ensures.leads c.in_ok-tell_look.ensures.tells c.begin_owed.ensures.appends.appends.appends.steps c.in_ok-answer.ensures.run
     (c.finds_none-waits.ensures.yes c.if-not-waits.false)
+
+pub returns-then-not-waits-clause-picks : goal.returns-then-not-waits-clause-picks
+returns-then-not-waits-clause-picks g c =
+    let work =
+    IsAtWork-behind c.args.moment c.args.op c.args.operation.now c.args.self.now c.read_when_late.new.self c.in_ok-read_when_late.ensures.ok c.read_when_late.ensures.appends c.requires.work in
+    LooksOnce-by {P = g.row.P.Denot} g.P.Picker.allows g.P.Picker.follows c.args.moment c.args.op c.args.looker.words.0 c.args.looker.words.1 c.args.operation.now
+    c.args.self.now.trail c.read_when_late.new.self.trail c.tell_look.new.self.trail c.tell_look.new.self.trail c.args.picker.now c.ask_for.new.picker
+    c.in_ok-answer.answer.kept c.in_ok-answer.answer.how [] c.read_when_late.ensures.appends.appends.appends.client c.read_when_late.ensures.appends.appends.tells
+    c.ask_for.ensures.leads c.in_ok-tell_look.ensures.told (sym (append-nil (told_in c.tell_look.new.self.trail))) (All-nil (λ (t : Timed Fact). NamesNone t.what)) work.there c.in_ok-answer.ensures.run
+
+pub returns-clause-picks : goal.returns-clause-picks
+returns-clause-picks g c =
+    let work =
+    IsAtWork-behind c.args.moment c.args.op c.args.operation.now c.args.self.now c.read_when_late.new.self c.in_ok-read_when_late.ensures.ok c.read_when_late.ensures.appends c.requires.work in
+    LooksOnce-by {P = g.row.P.Denot} g.P.Picker.allows g.P.Picker.follows c.args.moment c.args.op c.args.looker.words.0 c.args.looker.words.1 c.args.operation.now
+    c.args.self.now.trail c.read_when_late.new.self.trail c.tell_look.new.self.trail c.begin_owed.new.self.trail c.args.picker.now c.ask_for.new.picker
+    c.in_ok-answer.answer.kept c.in_ok-answer.answer.how c.begin_owed.ensures.appends.appends.tells.more c.read_when_late.ensures.appends.appends.appends.client c.read_when_late.ensures.appends.appends.tells
+    c.ask_for.ensures.leads c.in_ok-tell_look.ensures.told c.begin_owed.ensures.appends.appends.tells.facts c.begin_owed.ensures.appends.appends.tells.each work.there c.in_ok-answer.ensures.run

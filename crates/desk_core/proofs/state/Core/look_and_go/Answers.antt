@@ -1,9 +1,11 @@
-use Rattle.std.proofs.Common.{◌≡◌, Option, inr, subst}
+use Rattle.std.proofs.Common.{◌≡◌, Option, inr, subst, sym}
 use Rattle.std.specs.Prelude.{IfNone, IfSome}
 use Rattle.sess_book.specs.Ids.{id_of}
 use Rattle.write_retry.specs.declared.events.Next.TheVariants as next
 use Rattle.desk_core.specs.Steps.{MeansGoing, MeansPhase}
 use Rattle.desk_core.specs.declared.sight.Sight.{Sight}
+use Rattle.desk_core.specs.Picks.{LooksOnce}
+use Rattle.desk_core.proofs.PickLemmas.{LooksOnce-more}
 use Rattle.desk_core.proofs.GoingLemmas.{Appends-then, HasFound-more, HasGone-then, IsWaiting-client, MeansStep-going}
 use Rattle.desk_core.proofs.state.Core.look_and_go.Goals as goal
 
@@ -60,3 +62,20 @@ pub returns-in-None-clause-appends : goal.returns-in-None-clause-appends
 returns-in-None-clause-appends g c =
     Appends-then _ _ _ c.args.at.moment c.args.self.now.trail c.look_counted.new.self.trail c.go_counted.new.self.trail c.look_counted.ensures.faults c.go_counted.ensures.faults
     c.look_counted.ensures.appends c.go_counted.ensures.appends
+
+pub returns-in-Wait-clause-picks : goal.returns-in-Wait-clause-picks
+returns-in-Wait-clause-picks g c = c.in_ok-look_counted.ensures.picks
+
+pub returns-in-Some-clause-picks : goal.returns-in-Some-clause-picks
+returns-in-Some-clause-picks g c =
+    subst (λ (q : g.row.P.Denot). LooksOnce g.P.Picker.allows g.P.Picker.follows c.args.at.moment c.args.at.op c.args.self.now.trail c.go_counted.new.self.trail c.args.parts.now.picker q)
+    (sym c.go_counted.ensures.picker)
+    (LooksOnce-more {P = g.row.P.Denot} g.P.Picker.allows g.P.Picker.follows c.args.at.moment c.args.at.op c.args.self.now.trail c.look_counted.new.self.trail c.go_counted.new.self.trail
+    c.args.parts.now.picker c.look_counted.new.parts.picker c.in_ok-look_counted.ensures.picks c.go_counted.ensures.unlooked)
+
+pub returns-in-None-clause-picks : goal.returns-in-None-clause-picks
+returns-in-None-clause-picks g c =
+    subst (λ (q : g.row.P.Denot). LooksOnce g.P.Picker.allows g.P.Picker.follows c.args.at.moment c.args.at.op c.args.self.now.trail c.go_counted.new.self.trail c.args.parts.now.picker q)
+    (sym c.go_counted.ensures.picker)
+    (LooksOnce-more {P = g.row.P.Denot} g.P.Picker.allows g.P.Picker.follows c.args.at.moment c.args.at.op c.args.self.now.trail c.look_counted.new.self.trail c.go_counted.new.self.trail
+    c.args.parts.now.picker c.look_counted.new.parts.picker c.in_ok-look_counted.ensures.picks c.go_counted.ensures.unlooked)

@@ -25,3 +25,6 @@ returns-in_err-move_one-clause-appends g c =
 pub returns-clause-appends : goal.returns-clause-appends
 returns-clause-appends g c =
     grown-by_look c.args.at.moment c.args.at.op c.args.words.a c.args.words.b (id_of c.args.words.c c.args.words.d) c.args.self.now.trail c.look.new.self.trail c.look.ensures.appends
+
+pub returns-clause-picks : goal.returns-clause-picks
+returns-clause-picks g c = c.in_ok-looked.ensures.picks

@@ -1,10 +1,12 @@
-use Rattle.std.proofs.Common.{Option, subst}
+use Rattle.std.proofs.Common.{Option, inl, inr, subst}
 use Rattle.std.specs.Prelude.{IfSome}
 use Rattle.sess_book.specs.Ids.{id_of}
 use Rattle.desk_core.specs.Steps.{MeansGoing}
 use Rattle.desk_core.specs.declared.sight.Sight.{Sight}
 use Rattle.desk_core.proofs.GoingLemmas.{Appends-then, HasGone-then, IfOk-by, MeansStep-behind, MeansStep-going}
+use Rattle.desk_core.specs.Picks.{LooksOnce}
 use Rattle.desk_core.proofs.OfferLemmas.{OnOk-by}
+use Rattle.desk_core.proofs.PickLemmas.{LooksOnce-behind}
 use Rattle.desk_core.proofs.state.Core.step.Goals as goal
 
 pub returns-in-None-clause-gone : goal.returns-in-None-clause-gone
@@ -30,3 +32,16 @@ pub returns-in-None-clause-appends : goal.returns-in-None-clause-appends
 returns-in-None-clause-appends g c =
     Appends-then _ _ _ c.args.at.moment c.args.self.now.trail c.go_counted.new.self.trail c.look_and_go.new.self.trail c.go_counted.ensures.faults c.look_and_go.ensures.faults
     c.go_counted.ensures.appends c.look_and_go.ensures.appends
+
+pub returns-in-Some-clause-asks : goal.returns-in-Some-clause-asks
+returns-in-Some-clause-asks g c = inr (c.go_counted.ensures.picker, c.go_counted.ensures.unlooked)
+
+pub returns-in-None-clause-asks : goal.returns-in-None-clause-asks
+returns-in-None-clause-asks g c =
+    OnOk-by c.look_and_go.result _ _
+    (λ once. inl
+    (LooksOnce-behind {P = g.row.P.Denot} g.P.Picker.allows g.P.Picker.follows c.args.at.moment c.args.at.op c.args.self.now.trail c.go_counted.new.self.trail c.look_and_go.new.self.trail
+    c.args.parts.now.picker c.look_and_go.new.parts.picker c.go_counted.ensures.appends.appends.client c.go_counted.ensures.unlooked
+    (subst (λ (p : g.row.P.Denot). LooksOnce g.P.Picker.allows g.P.Picker.follows c.args.at.moment c.args.at.op c.go_counted.new.self.trail c.look_and_go.new.self.trail p
+    c.look_and_go.new.parts.picker) c.go_counted.ensures.picker once)))
+    c.look_and_go.ensures.picks

@@ -1,14 +1,17 @@
-use Rattle.std.proofs.Common.{◌≡◌, ◌+◌, List, ◌++◌, length, sym, ap, ◌∙◌, refl, subst, arith}
+use Rattle.std.proofs.Common.{◌≡◌, ◌+◌, List, [], ◌∷◌, ◌++◌, length, sym, ap, ◌∙◌, refl, subst, arith}
 use Rattle.std.specs.Prelude.{drop, slice_get, slice_set, take}
 use Rattle.std.proofs.lemmas.Bool.{eqb-true}
+use Rattle.entry_judge.specs.declared.timed.Timed.{Timed}
 use Rattle.desk_trail.specs.declared.entry.Entry.TheVariants as entry_of
 use Rattle.desk_trail.specs.declared.room.Room.{Room}
 use Rattle.desk_trail.specs.Clients.{Client}
+use Rattle.desk_trail.specs.Facts.{Fact, Lists, facts_of}
 use Rattle.desk_trail.specs.Facts as fact
 use Rattle.desk_trail.specs.Looks.{IsLook}
 use Rattle.desk_trail.specs.States.{ServerState}
+use Rattle.desk_trail.specs.declared.step.Step.{Step}
 use Rattle.desk_trail.specs.Written.{IsAtLeast, an_entry}
-use Rattle.legal_trail.specs.Recorded.{Recorded}
+use Rattle.legal_trail.specs.Recorded.{Recorded, told_in}
 use Rattle.wired_trail.specs.Lines.{Lines as WireLines}
 use Rattle.desk_core.specs.Appends.{AppendsOf, IsOfLook}
 use Rattle.desk_core.specs.Kept.{IsKept}
@@ -91,4 +94,21 @@ returns-clause-appends g c =
     elim c.if-is_err.branch [
       | then-is_err w ↦ rw w.self-is (rw (← c.self.view_is) grown)
       | else-is_err w ↦ rw w.self-is (rw (← c.self.view_is) grown)
+    ]
+
+pub returns-clause-told : goal.returns-clause-told
+returns-clause-told g c =
+    let old : Recorded = c.self.inside.wired.trail in
+    let r : Recorded = c.reserve_beside.new.wired.trail in
+    let new : Recorded = c.record_look-told.new.wired.trail in
+    let e = ap (λ s. s.trail) c.reserve_beside.ensures.same in
+    let look : Timed Fact = record { at = c.args.moment; what = fact.Looked c.args.op c.args.words.0 c.args.words.1 c.args.answer.kept c.args.answer.how } in
+    let same : told_in r ≡ told_in old =
+    ap (λ (l : Lists). facts_of l r.steps) (ap (λ (t : Recorded). t.lists) e) ∙ ap (λ (ss : List Step). facts_of old.lists ss) (ap (λ (t : Recorded). t.steps) e) in
+    let adds = c.record_look-told.ensures.adds in
+    let told : told_in new ≡ told_in old ++ look ∷ [] = adds.told_now ∙ ap (λ (ts : List (Timed Fact)). ts ++ look ∷ []) same in
+    let on_ok = OnOk-by c.record_look-told.result _ (told_in new ≡ told_in old ++ look ∷ []) (λ moved. told) c.record_look-told.ensures.moved in
+    elim c.if-is_err.branch [
+      | then-is_err w ↦ rw w.self-is (rw (← c.self.view_is) on_ok)
+      | else-is_err w ↦ rw w.self-is (rw (← c.self.view_is) on_ok)
     ]

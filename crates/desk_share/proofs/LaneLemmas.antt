@@ -1,9 +1,8 @@
 -- The lanes of a trail to which entries are appended.
-use Rattle.std.proofs.Common.{◌≡◌, inl, inr, ℕ, zero, suc, ◌+◌, ◌<◌, ◌⊎◌, ◌==◌, Bool, true, false, List, [], ◌∷◌, ◌++◌, Option, None, Some, length, refl, sym, ap, ◌∙◌, subst, arith, All}
-use Rattle.std.specs.Prelude.{map, slice_get}
+use Rattle.std.proofs.Common.{◌≡◌, inl, inr, ℕ, zero, suc, ◌+◌, ◌<◌, ◌⊎◌, Bool, true, false, List, [], ◌∷◌, ◌++◌, Some, length, refl, sym, ap, ◌∙◌, subst, arith, All}
+use Rattle.std.specs.Prelude.{slice_get}
 use Rattle.std.proofs.lemmas.List.{map-append}
 use Rattle.std.proofs.lemmas.List.Elements.{All-cons, All-head, All-nil, All-tail}
-use Rattle.std.proofs.lemmas.Option.{slice_get_within}
 use Rattle.cmd_build.specs.declared.command.Command.{Command}
 use Rattle.entry_judge.specs.Groups.{entries_of}
 use Rattle.entry_judge.specs.declared.timed.Timed.{Timed}
@@ -13,11 +12,11 @@ use Rattle.desk_trail.specs.Facts.{Fact}
 use Rattle.desk_trail.specs.Facts as fact
 use Rattle.desk_trail.specs.Lanes.{EntryAt, RunInLanes, answers, is_of_command}
 use Rattle.desk_trail.specs.Legal.{point_behind}
-use Rattle.desk_trail.specs.States.{ClientState, CommandState}
+use Rattle.desk_trail.specs.States.{CommandState}
 use Rattle.trail_laws.specs.Answers.{IsUnanswered}
 use Rattle.trail_laws.specs.Answers as law
 use Rattle.desk_core.specs.Appends.{NamesNone, NamesOnly, Tells}
-use Rattle.desk_core.specs.Nexts.{IsNextIn, IsOfLane}
+use Rattle.desk_core.specs.Nexts.{IsNextIn}
 use Rattle.desk_share.specs.Shared.{AreInLanes}
 
 -- ---- Lists

@@ -1,5 +1,9 @@
+mod BeginLemmas
+mod FaultLemmas
 mod HeardLemmas
 mod LaneLemmas
 mod MomentLemmas
+mod PlaceLemmas
+mod SendLemmas
 mod SharedLemmas
 mod WordLemmas

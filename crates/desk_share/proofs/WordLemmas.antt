@@ -1,5 +1,5 @@
 -- The words of entries that are appended to a trail.
-use Rattle.std.proofs.Common.{◌≡◌, ℕ, ◌==◌, Bool, true, false, List, ◌++◌, refl, sym, subst, eq-eqb, All}
+use Rattle.std.proofs.Common.{◌≡◌, ℕ, ◌==◌, true, false, List, refl, sym, subst, eq-eqb}
 use Rattle.std.proofs.lemmas.List.Elements.{All-append}
 use Rattle.entry_judge.specs.declared.timed.Timed.{Timed}
 use Rattle.sess_book.specs.Ids.{id_of}

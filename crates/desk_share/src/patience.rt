@@ -1,4 +1,4 @@
-ghost use Rattle.std.specs.Prelude.{◌≤◌, ◌+◌, max};
+ghost use Rattle.std.specs.Prelude.{◌≡◌, ◌⊎◌};
 
 /// How long a rest lasts at most in the first turns of a wait, and how long later, in microseconds (own).
 const SHORT_REST: u64 = 1_000;
@@ -21,24 +21,15 @@ impl Patience {
         Patience { until: 0, turns: 0 }
     }
 
-    /// How long it rests this time at a moment, where it waits until another: no longer than until then, and at most 10,000
-    /// microseconds.
-    pub fn next_rest(&mut self, now: u64, until: u64) -> u64
-        ensures most { result ≤ 10000 }
-        ensures left { result + now ≤ max now until }
+    /// How long it rests this time, where it waits until that moment: 1,000 microseconds or 10,000.
+    pub fn next_rest(&mut self, until: u64) -> u64
+        ensures { (result ≡ 1000) ⊎ (result ≡ 10000) }
     {
         if until != self.until {
             self.until = until;
             self.turns = 0;
         }
         self.turns = self.turns.saturating_add(1);
-        self.longest().min(until.saturating_sub(now))
-    }
-
-    /// How long a rest of this turn lasts at most.
-    fn longest(&self) -> u64
-        ensures { result ≤ 10000 }
-    {
         if self.turns <= SHORT_TURNS {
             SHORT_REST
         } else {

@@ -1,21 +1,24 @@
 //! The program `example_script`: a script of four commands is run over a replica set in memory, of which another member is elected
 //! in the middle.
 //!
-//! `run` is generic over its source, sink, net, clock and dice. The program `mdc` hands it sockets and the standard input; here it
+//! `run` is generic over its source, sink, net, clock, dice and gate. The program `mdc` hands it sockets and the standard input; here it
 //! gets stand-ins. A `Hall` is a net that plays the members of a set, with a plan of what happens to them.
 #![tactic(auto)]
 
 ghost use Rattle.std.specs.Prelude.{◌≡◌, [], IfOk};
 
 use bson_doc::{Bytes, Memory, Rows, Text};
+use drv_events::Hooks;
 use host_name::Host;
 use member_core::is_within;
 use member_hall::{Act, Hall, Planned};
-use net_link::{SliceSource, TickClock, VecSink};
-use shell_top::{Ended, run};
+use net_link::{OpenGate, SliceSource, TickClock, VecSink};
+use server_pick::KeepAll;
+use shell_top::run;
 use soak_plan::SeedDice;
 use std::alloc::{AllocError, Global};
 use std::sync::Wait;
+use std::thread::Threads;
 
 /// The name of the set, and how it is reached.
 const SET: &str = "rs0";
@@ -57,23 +60,27 @@ struct Setting {
     hall: Hall,
 }
 
-/// What a run left: its status, members and trail, and what was written.
+/// What a run left: its members, and what was written.
 #[derive(Drop)]
 struct Ran {
-    ended: Ended<Hall>,
+    hall: Hall,
     out: VecSink,
 }
 
 fn main(rt: HostRuntime) -> anyhow::Result<()> {
     let setting = setting_of(rt.alloc())?;
-    let ran = run_over(&rt, rt.alloc(), setting);
+    let ran = run_over(&rt, rt.alloc(), setting)?;
     print!(rt; "{}", std::str::from_utf8(ran.out.written())?)?;
-    println!(rt; "elections {}", ran.ended.net.elections())?;
+    println!(rt; "elections {}", ran.hall.elections())?;
     Ok(())
 }
 
 /// Runs the script over members to which nothing happened yet. The clock goes on by a microsecond at each look.
-fn run_over<R: Wait>(rt: &R, alloc: Global, setting: Setting) -> Ran
+fn run_over<R: Threads + Wait + Sync>(
+    rt: &R,
+    alloc: Global,
+    setting: Setting,
+) -> Result<Ran, Memory>
     requires { setting.hall.events ≡ [] }
 {
     let words = setting.words;
@@ -82,8 +89,25 @@ fn run_over<R: Wait>(rt: &R, alloc: Global, setting: Setting) -> Ran
     let mut out = setting.out;
     let clock = TickClock::new(0, 1);
     let dice = SeedDice::new(1);
-    let ended = run(rt, alloc, &words, &mut script, &mut out, hall, &clock, dice);
-    Ran { ended, out }
+    let hooks = Hooks::new(alloc);
+    let picker = Box::new(alloc, KeepAll)?;
+    let ended = run(
+        rt,
+        alloc,
+        &words,
+        &mut script,
+        &mut out,
+        hall,
+        &clock,
+        dice,
+        hooks,
+        picker,
+        &OpenGate,
+    );
+    Ok(Ran {
+        hall: ended.net,
+        out,
+    })
 }
 
 fn setting_of(alloc: Global) -> Result<Setting, Memory>

@@ -27,6 +27,7 @@ use script::script;
 use std::alloc::Global;
 use std::process::ExitCode;
 use std::sync::Wait;
+use std::thread::Threads;
 use table::{Row, try_turn, try_turns};
 use worked::{WORKED, try_worked};
 
@@ -43,7 +44,7 @@ fn main(rt: HostRuntime) -> anyhow::Result<ExitCode> {
 }
 
 /// Prints what came of the worked runs, and answers whether that is what must come of them.
-fn print_worked<R: Wait + Print>(rt: &R, alloc: Global) -> anyhow::Result<bool> {
+fn print_worked<R: Threads + Wait + Sync + Print>(rt: &R, alloc: Global) -> anyhow::Result<bool> {
     let mut right = true;
     for worked in &WORKED {
         let came = try_worked(rt, alloc, worked)?;
@@ -57,7 +58,11 @@ fn print_worked<R: Wait + Print>(rt: &R, alloc: Global) -> anyhow::Result<bool> 
 }
 
 /// Prints a line for each loss, and answers whether each is right.
-fn print_table<R: Wait + Print>(rt: &R, alloc: Global, script: &str) -> anyhow::Result<bool> {
+fn print_table<R: Threads + Wait + Sync + Print>(
+    rt: &R,
+    alloc: Global,
+    script: &str,
+) -> anyhow::Result<bool> {
     let whole = try_turn(rt, alloc, script, Loss::Nothing, 0)?;
     let mut right = print_row(rt, Loss::Nothing, whole.turns, Row::empty().with(whole))?;
     for loss in LOSSES {

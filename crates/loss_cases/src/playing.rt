@@ -2,12 +2,17 @@
 ghost use Rattle.std.specs.Prelude.{◌≡◌, []};
 
 use crate::settings::Setting;
+use bson_doc::Memory;
+use desk_trail::Trail;
+use drv_events::Hooks;
 use member_hall::Hall;
-use net_link::{TickClock, VecSink};
+use net_link::{OpenGate, TickClock, VecSink};
+use server_pick::KeepAll;
 use shell_top::{Ended, run};
 use soak_plan::SeedDice;
 use std::alloc::Global;
 use std::sync::Wait;
+use std::thread::Threads;
 
 /// By how many microseconds the clock goes on at each look.
 const STEP: u64 = 1;
@@ -18,8 +23,10 @@ const SEED: u64 = 1;
 /// What a run left.
 #[derive(Drop)]
 pub struct Played {
-    /// The status, the members and the trail.
-    pub ended: Ended<Hall>,
+    /// The members.
+    pub hall: Hall,
+    /// What the client did.
+    pub trail: Trail,
     /// What was written.
     pub out: VecSink,
 }
@@ -36,7 +43,11 @@ impl Played {
 }
 
 /// Runs the commands over members to which nothing happened yet.
-pub fn play<R: Wait>(rt: &R, alloc: Global, setting: Setting) -> Played
+pub fn play<R: Threads + Wait + Sync>(
+    rt: &R,
+    alloc: Global,
+    setting: Setting,
+) -> Result<Played, Memory>
     requires { setting.hall.events ≡ [] }
 {
     let words = setting.words;
@@ -45,6 +56,24 @@ pub fn play<R: Wait>(rt: &R, alloc: Global, setting: Setting) -> Played
     let mut out = setting.out;
     let clock = TickClock::new(0, STEP);
     let dice = SeedDice::new(SEED);
-    let ended = run(rt, alloc, &words, &mut script, &mut out, hall, &clock, dice);
-    Played { ended, out }
+    let picker = Box::new(alloc, KeepAll)?;
+    let ended = run(
+        rt,
+        alloc,
+        &words,
+        &mut script,
+        &mut out,
+        hall,
+        &clock,
+        dice,
+        Hooks::new(alloc),
+        picker,
+        &OpenGate,
+    );
+    let Ended { net, trail, .. } = ended;
+    Ok(Played {
+        hall: net,
+        trail,
+        out,
+    })
 }

@@ -7,6 +7,7 @@ use crate::settings::setting_of;
 use bson_doc::Memory;
 use std::alloc::Global;
 use std::sync::Wait;
+use std::thread::Threads;
 
 /// What came of runs in which the same is lost, each at another turn.
 #[derive(Clone, Copy, Debug)]
@@ -53,7 +54,7 @@ impl Row {
 }
 
 /// Runs a script in which that is lost, at each turn from 0 to that one. An act of turn 0 happens at the first turn.
-pub fn try_turns<R: Wait>(
+pub fn try_turns<R: Threads + Wait + Sync>(
     rt: &R,
     alloc: Global,
     script: &str,
@@ -69,7 +70,7 @@ pub fn try_turns<R: Wait>(
 }
 
 /// Runs a script in which that is lost at that turn.
-pub fn try_turn<R: Wait>(
+pub fn try_turn<R: Threads + Wait + Sync>(
     rt: &R,
     alloc: Global,
     script: &str,
@@ -78,12 +79,12 @@ pub fn try_turn<R: Wait>(
 ) -> Result<Verdict, Memory> {
     let acts = plan(alloc, loss, turn)?;
     let setting = setting_of(alloc, script, acts)?;
-    let played = play(rt, alloc, setting);
+    let played = play(rt, alloc, setting)?;
     judge_played(alloc, &played)
 }
 
 fn judge_played(alloc: Global, played: &Played) -> Result<Verdict, Memory> {
-    let hall = &played.ended.net;
-    let logs = logs_of(alloc, &played.ended.trail, hall)?;
+    let hall = &played.hall;
+    let logs = logs_of(alloc, &played.trail, hall)?;
     Ok(judge(played.report(), hall, &logs))
 }

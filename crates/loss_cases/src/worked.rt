@@ -6,6 +6,7 @@ use bson_doc::{Memory, Rows};
 use member_hall::{Act, Planned};
 use std::alloc::Global;
 use std::sync::Wait;
+use std::thread::Threads;
 
 /// The member that is elected when a run begins.
 const FIRST: u32 = 0;
@@ -84,10 +85,14 @@ impl Came {
 }
 
 /// Runs the command.
-pub fn try_worked<R: Wait>(rt: &R, alloc: Global, worked: &Worked) -> Result<Came, Memory> {
+pub fn try_worked<R: Threads + Wait + Sync>(
+    rt: &R,
+    alloc: Global,
+    worked: &Worked,
+) -> Result<Came, Memory> {
     let acts = plan(alloc, worked)?;
     let setting = setting_of(alloc, worked.script, acts)?;
-    let played = play(rt, alloc, setting);
+    let played = play(rt, alloc, setting)?;
     came_of(alloc, &played)
 }
 
@@ -106,7 +111,7 @@ fn plan(alloc: Global, worked: &Worked) -> Result<Rows<Planned>, Memory> {
 }
 
 fn came_of(alloc: Global, played: &Played) -> Result<Came, Memory> {
-    let logs = logs_of(alloc, &played.ended.trail, &played.ended.net)?;
+    let logs = logs_of(alloc, &played.trail, &played.hall)?;
     Ok(Came {
         line: first_line(alloc, played.report())?,
         effects: logs.count_of(0),

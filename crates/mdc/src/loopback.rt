@@ -1,21 +1,24 @@
 //! One insert over real sockets: a run of the program's net, clock and dice against a member that a thread serves.
+ghost use Rattle.std.specs.Prelude.{◌≡◌, []};
+
 use crate::machine_clock::MachineClock;
 use crate::machine_dice::MachineDice;
 use crate::socket_net::SocketNet;
 use crate::socket_watch::SocketWatch;
 use bson_doc::{Bytes, Rows, Text};
+use drv_events::Hooks;
 use member_core::Member;
 use member_serve::{Settings, member_of};
 use msg_wire::{Message, MsgFault, read};
-use net_link::{SliceSource, VecSink};
+use net_link::{Clock, Dice, Net, OpenGate, SliceSource, VecSink};
+use server_pick::KeepAll;
 use shell_top::{Status, run};
 use std::alloc::{AllocError, Global};
 use std::io::{ErrorKind, Read, Write};
-use std::net::{Net, TcpListener};
-use std::random::RandomSource;
+use std::net::TcpListener;
 use std::sync::Wait;
 use std::test::Fail;
-use std::time::Clock;
+use std::thread::Threads;
 use std::{io, thread};
 
 /// The script of one insert.
@@ -89,26 +92,50 @@ fn serve(alloc: Global, listener: &TcpListener, member: &mut Member) -> Result<(
     Ok(())
 }
 
-/// Runs the script against that port, by the program's net, clock and dice, and says whether its status is 0.
-fn is_run<R: Net + Clock + Wait + RandomSource>(
+/// What a run asks of the machine.
+#[derive(Drop)]
+struct Outside<'a, N, C, D> {
+    net: N,
+    clock: &'a C,
+    dice: D,
+}
+
+/// Runs the script against that port, and says whether its status is 0.
+fn is_run<
+    R: Threads + Wait + Sync,
+    N: Net + Send + Drop,
+    C: Clock + Send + Sync,
+    D: Dice + Send + Drop,
+>(
     rt: &R,
     alloc: Global,
     port: u16,
+    outside: Outside<'_, N, C, D>,
     out: &mut VecSink,
-) -> Result<bool, AllocError> {
+) -> Result<bool, AllocError>
+    requires fresh { N.tells → N.history outside.net ≡ [] }
+{
     let uri = format!(in alloc; "mongodb://127.0.0.1:{port}/?replicaSet=rs0")?;
     let mut words = Rows::new(alloc);
     for word in ["run", uri.as_str()] {
         words.push(Text::take(alloc, word)?)?;
     }
     let mut script = SliceSource::new(Bytes::take(alloc, SCRIPT.as_bytes())?, Rows::new(alloc));
-    let watch = SocketWatch::new(alloc, rt);
-    let net = SocketNet::new(alloc, rt, &watch);
-    let clock = MachineClock::new(rt, &watch);
-    let Ok(dice) = MachineDice::new(rt) else {
-        return Ok(false);
-    };
-    let ended = run(rt, alloc, &words, &mut script, out, net, &clock, dice);
+    let Outside { net, clock, dice } = outside;
+    let picker = Box::new(alloc, KeepAll)?;
+    let ended = run(
+        rt,
+        alloc,
+        &words,
+        &mut script,
+        out,
+        net,
+        clock,
+        dice,
+        Hooks::new(alloc),
+        picker,
+        &OpenGate,
+    );
     Ok(matches!(ended.status, Status::AllOk))
 }
 
@@ -127,7 +154,18 @@ fn loopback(rt: HostRuntime) -> Result<(), Fail> {
     let (served, is_ok) = thread::join_mut(
         &rt,
         &mut || serve(alloc, &listener, &mut member),
-        &mut || is_run(&rt, alloc, port, &mut out),
+        &mut || {
+            let Ok(dice) = MachineDice::new(&rt) else {
+                return Ok(false);
+            };
+            let watch = SocketWatch::new(alloc, &rt);
+            let outside = Outside {
+                net: SocketNet::new(alloc, &rt, &watch),
+                clock: &MachineClock::new(&rt, &watch),
+                dice,
+            };
+            is_run(&rt, alloc, port, outside, &mut out)
+        },
     );
     served?;
     assert!(rt; is_ok?);

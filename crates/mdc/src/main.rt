@@ -2,7 +2,7 @@
 //! seed gives over members in memory and sums up.
 //!
 //! `mdc run URI` reads a script from the standard input, one JSON object a line, finds the servers of the deployment that the
-//! connection string URI gives, runs the commands in order, and prints a line a command and their count. `mdc soak SEED N` runs N
+//! connection string URI gives, runs the commands, those of one lane in order, and prints a line a command and their count. `mdc soak SEED N` runs N
 //! commands over a replica set of three that is played in memory, to which happens what SEED gives, and prints seven lines that sum
 //! up. [`shell_top::run`] is the top call, over any source, sink, net, clock and dice; its contract says what a run does. [`main`]
 //! makes the real objects, which are the trusted edge: the standard input and output, a net of sockets, the machine's clock, and
@@ -26,9 +26,12 @@ mod standard_output;
 mod tests;
 
 use bson_doc::{Rows, Text};
+use drv_events::Hooks;
 use machine_clock::MachineClock;
 use machine_dice::MachineDice;
+use net_link::OpenGate;
 use run_words::{WordStop, read_words};
+use server_pick::KeepAll;
 use shell_top::{Status, UseFault, run};
 use socket_net::SocketNet;
 use socket_watch::SocketWatch;
@@ -46,17 +49,25 @@ fn main(rt: HostRuntime) -> ExitCode {
             let watch = SocketWatch::new(rt.alloc(), &rt);
             let net = SocketNet::new(rt.alloc(), &rt, &watch);
             let clock = MachineClock::new(&rt, &watch);
-            let ended = run(
-                &rt,
-                rt.alloc(),
-                &words,
-                &mut script,
-                &mut out,
-                net,
-                &clock,
-                dice,
-            );
-            ended.status
+            match Box::new(rt.alloc(), KeepAll) {
+                Ok(picker) => {
+                    let ended = run(
+                        &rt,
+                        rt.alloc(),
+                        &words,
+                        &mut script,
+                        &mut out,
+                        net,
+                        &clock,
+                        dice,
+                        Hooks::new(rt.alloc()),
+                        picker,
+                        &OpenGate,
+                    );
+                    ended.status
+                }
+                Err(_) => without_dice(&rt, &words),
+            }
         }
         (Err(status), _) => status,
         (Ok(words), Err(_)) => without_dice(&rt, &words),
@@ -87,7 +98,7 @@ fn words_of(rt: &HostRuntime) -> Result<Rows<Text>, Status> {
     Ok(words)
 }
 
-/// The status of a run, or of a soak, for which the system gave no seed: words that are refused are told first.
+/// The status of a run, or of a soak, for which the system gave no seed or no memory: words that are refused are told first.
 fn without_dice(rt: &HostRuntime, words: &Rows<Text>) -> Status {
     match read_words(rt.alloc(), words.as_slice()) {
         Err(WordStop::Fault(fault)) => Status::Usage(fault),

@@ -38,17 +38,17 @@ fn run_fact(
     run: &Run,
     name: &str,
 ) -> Result<Option<String>, CaseFault> {
-    if let Status::Memory = run.ended.status {
+    if let Status::Memory = run.status {
         return Err(CaseFault::Memory);
     }
     let mut line = String::from_str(alloc, name)?;
     match name {
-        "status" => write!(&mut line, " {}", run.ended.status.code())?,
-        "usage" => match &run.ended.status {
+        "status" => write!(&mut line, " {}", run.status.code())?,
+        "usage" => match &run.status {
             Status::Usage(fault) => push_use_fault(&mut line, fault)?,
             _ => line.push_str(" none")?,
         },
-        "members" => match &run.ended.soaked {
+        "members" => match &run.soaked {
             Some(hall) => write!(&mut line, " {}", hall.members())?,
             None => line.push_str(" 0")?,
         },
@@ -56,11 +56,11 @@ fn run_fact(
             line.push_str(" ")?;
             push_quoted(&mut line, run.out.written())?;
         }
-        "entries" => write!(&mut line, " {}", run.ended.trail.steps.len())?,
-        "hosts" => push_hosts(&mut line, &run.ended.trail)?,
-        "attempts" => push_attempts(&mut line, &run.ended.trail)?,
-        "requests" | "ids" => push_requests(&mut line, known, name, &run.ended.trail)?,
-        _ => return event_fact(alloc, known, run.ended.net.events(), name),
+        "entries" => write!(&mut line, " {}", run.trail.steps.len())?,
+        "hosts" => push_hosts(&mut line, &run.trail)?,
+        "attempts" => push_attempts(&mut line, &run.trail)?,
+        "requests" | "ids" => push_requests(&mut line, known, name, &run.trail)?,
+        _ => return event_fact(alloc, known, run.net.events(), name),
     }
     Ok(Some(line))
 }

@@ -4,10 +4,15 @@ use crate::known::Known;
 use crate::quoted::in_quotes;
 use bson_doc::{Bytes, Rows, Text};
 use case_files::{CaseFault, Words, hex_bytes, parsed};
-use net_link::{ListDice, ScriptNet, SliceSource, StreamPlan, TickClock, VecSink};
-use shell_top::{Ended, run};
+use desk_trail::Trail;
+use drv_events::Hooks;
+use member_hall::Hall;
+use net_link::{ListDice, OpenGate, ScriptNet, SliceSource, StreamPlan, TickClock, VecSink};
+use server_pick::KeepAll;
+use shell_top::{Ended, Status, run};
 use std::alloc::Global;
 use std::sync::Wait;
+use std::thread::Threads;
 
 /// By how many microseconds the clock goes on at each look, where nothing is said.
 const STEP: u64 = 1_000_000;
@@ -18,8 +23,14 @@ const ROOM: u32 = 4_096;
 /// What a run left.
 #[derive(Drop)]
 pub struct Run {
-    /// The status, the net and the trail.
-    pub ended: Ended<ScriptNet>,
+    /// How it ended.
+    pub status: Status,
+    /// The net that it was given.
+    pub net: ScriptNet,
+    /// What the client did.
+    pub trail: Trail,
+    /// The members of a soak.
+    pub soaked: Option<Hall>,
     /// What was written.
     pub out: VecSink,
 }
@@ -32,7 +43,7 @@ pub struct Run {
 /// point stands behind them the peer ends there. Of the net's calls those with the numbers in `fails` fail. The clock begins
 /// at 0 and goes on by so many microseconds at each look. What is written has room for so many bytes. The dice roll 1, 2 and
 /// so on to 8, and again from 1.
-pub fn ran<R: Wait>(
+pub fn ran<R: Threads + Wait + Sync>(
     rt: &R,
     alloc: Global,
     known: &Known,
@@ -45,8 +56,33 @@ pub fn ran<R: Wait>(
     let mut out = VecSink::new(alloc, room as usize, Rows::new(alloc))?;
     let line = command_line(alloc, words)?;
     let dice = dice(alloc)?;
-    let ended = run(rt, alloc, &line, &mut script, &mut out, net, &clock, dice);
-    Ok(Run { ended, out })
+    let picker = Box::new(alloc, KeepAll)?;
+    let Ended {
+        status,
+        net,
+        trail,
+        soaked,
+        ..
+    } = run(
+        rt,
+        alloc,
+        &line,
+        &mut script,
+        &mut out,
+        net,
+        &clock,
+        dice,
+        Hooks::new(alloc),
+        picker,
+        &OpenGate,
+    );
+    Ok(Run {
+        status,
+        net,
+        trail,
+        soaked,
+        out,
+    })
 }
 
 fn source(alloc: Global, known: &Known, words: &mut Words<'_>) -> Result<SliceSource, CaseFault> {

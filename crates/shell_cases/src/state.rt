@@ -5,10 +5,11 @@ use crate::steps::step_of;
 use case_files::{CaseFault, Subject, Words};
 use std::alloc::Global;
 use std::sync::Wait;
+use std::thread::Threads;
 
 /// What the steps made. Runs may wait, by `rt`.
 #[derive(Drop)]
-pub struct State<'a, R: Wait> {
+pub struct State<'a, R: Threads + Wait + Sync> {
     /// What a run may wait by.
     rt: &'a R,
     /// The bytes that have names.
@@ -26,7 +27,7 @@ pub enum Told {
     Ran(Run),
 }
 
-impl<'a, R: Wait> State<'a, R> {
+impl<'a, R: Threads + Wait + Sync> State<'a, R> {
     /// No bytes have a name yet.
     pub fn opened(rt: &'a R, alloc: Global) -> State<'a, R> {
         State {
@@ -37,7 +38,7 @@ impl<'a, R: Wait> State<'a, R> {
     }
 }
 
-impl<R: Wait> Subject for State<'_, R> {
+impl<R: Threads + Wait + Sync> Subject for State<'_, R> {
     fn begin(&mut self, alloc: Global) -> Result<(), CaseFault> {
         self.known = Known::new(alloc);
         self.told = Told::Named(0);

@@ -12,9 +12,10 @@ use crate::state::Told;
 use case_files::{CaseFault, Words, parsed};
 use std::alloc::Global;
 use std::sync::Wait;
+use std::thread::Threads;
 
 /// Takes the step of these words.
-pub fn step_of<R: Wait>(
+pub fn step_of<R: Threads + Wait + Sync>(
     rt: &R,
     alloc: Global,
     known: &mut Known,

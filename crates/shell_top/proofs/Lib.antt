@@ -1,4 +1,6 @@
+pub mod CrossingLemmas
 mod GoingLemmas
+mod ListenerLemmas
 mod ReportLemmas
 mod RunLemmas
 mod ScriptLemmas

@@ -1,5 +1,5 @@
 -- The hosts of a soak.
-use Rattle.std.proofs.Common.{◌≡◌, ◌≤◌, ℕ, List, length, arith, refl, sym, subst, decimal}
+use Rattle.std.proofs.Common.{◌≡◌, ◌≤◌, List, length, arith, refl, sym, subst, decimal}
 use Rattle.std.proofs.lemmas.Fmt.{length-decimal-le}
 use Rattle.std.specs.List.{IsDistinct}
 use Rattle.conn_uri.specs.Configurations.{AreSeeds}

@@ -1,7 +1,7 @@
 -- What a run says by its status, its trail and its output.
-use Rattle.std.specs.Prelude.{◌≡◌, ◌<◌, ◌≤◌, ◌⊎◌, ℕ, Bool, true, false, List, [], ◌++◌, length, Result, Ok, Err}
+use Rattle.std.specs.Prelude.{◌≡◌, ◌<◌, ◌⊎◌, ℕ, Bool, true, false, List, [], ◌++◌, length, Result, Ok, Err}
 use Rattle.std.specs.List.{list_all}
-use Rattle.net_link.specs.Causes.{HasCause, Rose}
+use Rattle.net_link.specs.Causes.{HasCause}
 use Rattle.net_link.specs.Prefix.{IsPrefixOf}
 use Rattle.net_link.specs.declared.event.NetEvent.{NetEvent}
 use Rattle.entry_judge.specs.declared.timed.Timed.{Timed}
@@ -13,17 +13,20 @@ use Rattle.script_text.specs.Scripts.{script_reading}
 use Rattle.script_text.specs.declared.fault.ScriptFault.{ScriptFault}
 use Rattle.desk_trail.specs.declared.trail.Trail.{Trail}
 use Rattle.desk_trail.specs.Clients.{Client}
-use Rattle.desk_trail.specs.Facts.{Fact, facts_of}
+use Rattle.desk_trail.specs.Facts.{Fact}
 use Rattle.desk_trail.specs.Legal.{IsComplete, IsLegal, point_behind}
 use Rattle.desk_trail.specs.Written.{lists_of}
-use Rattle.desk_core.specs.Appends.{tell_fault}
 use Rattle.desk_core.specs.Ending.{ArePoolsShut}
-use Rattle.shell_top.specs.Going.{AreShown, IsShown}
+use Rattle.drv_events.specs.declared.event.Event.{Event}
+use Rattle.drv_events.specs.declared.hooks.HooksOf.{HooksOf}
+use Rattle.desk_share.specs.Closed.{told_by}
+use Rattle.desk_share.specs.Shared.{AreInLanes, AreOfNet, AreRolled, AreShown, HeardAll, IsShown, Opened, listeners_in}
 use Rattle.shell_top.specs.Report.{is_ok_tally, report}
 use Rattle.wired_trail.specs.Faults.{IsCounted}
 use Rattle.wired_trail.specs.Wired.{IsWired}
 use Rattle.write_effects.specs.Each.{EachTakesEffectOnce}
 use Rattle.trail_tally.specs.Tallies.{AreAnswered, tallies_of}
+use Rattle.shell_top.specs.declared.status.Given.{Given}
 use Rattle.shell_top.specs.declared.status.Status.{Status}
 use Rattle.shell_top.specs.declared.status.Status.TheVariants as status
 
@@ -101,24 +104,29 @@ pub record IsOfNet (history : List NetEvent) (client : Client) (told : List (Tim
   pub wired : IsWired client history told
   pub once : EachTakesEffectOnce client told history
 
--- What a client did in a run. The members are those of the clock and the net.
+-- What a client did in a run, by what it began with. The members are those of the clock, the dice, the net and the listeners.
 -- Its trail is legal (`legal`), so at each look for a server the topology is that of the events that were accepted, each connection
 -- that is checked out has one borrower and the pool's current generation, and each answer is the verdict on its command's attempts, by
 -- the laws of legal trails. Where every command was run it is complete (`complete`), each pool is closed (`shut`), and each command was
--- answered (`answered`). It fits what the net told (`of_net`, by the test `fits`). Its moments
--- are the clock's (`began`, `moments`). It tells a failed call of the net only where the net's count of faults rose (`told`), which never
--- falls (`later`), and at most as many as the net counted (`counted`).
-pub record Did {A : Type 0} (shows : ℕ → Type 0) (faults : A → ℕ) (fits : Client → List (Timed Fact) → Type 0) (old new : A) (client : Client) (s : Status) (trail : Trail) : Type 0 where
-  pub began : IsShown shows client.began
-  pub legal : IsLegal client (lists_of trail) trail.steps
-  pub of_net : fits client (facts_of (lists_of trail) trail.steps)
-  pub complete : IsDone s → IsComplete client (lists_of trail) trail.steps
-  pub shut : IsDone s → ArePoolsShut (point_behind client (facts_of (lists_of trail) trail.steps)).state
-  pub answered : IsDone s → AreAnswered client.commands trail.steps
+-- answered (`answered`). It fits what the net told (`of_net`, by the test `fits`). The commands of each lane ran one after another
+-- (`lanes`). Its moments are the clock's (`began`, `moments`), its words the dice's (`words`). It tells a failed call of the net only
+-- where the net's count of faults rose, which never falls (`failures`), and at most as many as the net counted (`counted`). Each listener
+-- that is handed back heard exactly what the trail tells (`heard`); those that are not left, and are counted (`listeners`).
+pub record Did {A L : Type 0} (shows rolls : ℕ → Type 0) (faults : A → ℕ) (heard_by : L → List Event) (fits : Client → List (Timed Fact) → Type 0)
+    (opened : Opened) (new : A) (hooks : HooksOf L) (s : Status) (trail : Trail) : Type 0 where
+  pub began : IsShown shows opened.client.began
+  pub legal : IsLegal opened.client (lists_of trail) trail.steps
+  pub of_net : fits opened.client (told_by trail)
+  pub complete : IsDone s → IsComplete opened.client (lists_of trail) trail.steps
+  pub shut : IsDone s → ArePoolsShut (point_behind opened.client (told_by trail)).state
+  pub answered : IsDone s → AreAnswered opened.client.commands trail.steps
+  pub lanes : AreInLanes opened.client (told_by trail)
   pub moments : AreShown shows trail.steps
-  pub later : faults old ≤ faults new
-  pub told : tell_fault trail.steps ≡ true → Rose (faults old) (faults new)
+  pub words : AreRolled rolls (told_by trail)
+  pub failures : AreOfNet opened.faults (faults new) trail.steps
   pub counted : IsCounted (faults new) trail.steps
+  pub heard : HeardAll heard_by (told_by trail) hooks.listeners.items
+  pub listeners : listeners_in hooks ≡ opened.listeners
 
 -- ---- The report
 
@@ -159,27 +167,31 @@ pub record IsClient (tells : Type 0) (source : List ℕ) (asked : Configuration)
   pub settings : client.settings ≡ asked
   pub commands : Tells tells source (Ok client.commands)
 
--- Nothing was done: the net is as it was, the trail is empty, and nothing was written.
-pub record IsNothing {A B : Type 0} (net_old net_new : A) (left : Trail) (out_tells : Type 0) (written_to : B → List ℕ) (old new : B) : Type 0 where
-  pub net : net_new ≡ net_old
+-- Nothing was done: what was given is as it was, the trail is empty, and nothing was written.
+pub record IsNothing {A B : Type 0} (given given_back : A) (left : Trail) (out_tells : Type 0) (written_to : B → List ℕ) (old new : B) : Type 0 where
+  pub same : given_back ≡ given
   pub trail : left ≡ no_trail
   pub written : out_tells → written_to new ≡ written_to old
 
+-- What is given, by its parts.
+abbrev pub given_of : {A P L : Type 0} → A → P → HooksOf L → Given A P L
+given_of net picker hooks = record { net = net; picker = picker; hooks = hooks }
+
 -- The script's commands were run by a client of what was asked for, which did that, and were reported so.
-pub record RunsAll {A B : Type 0} (source_tells : Type 0) (source : List ℕ) (asked : Configuration) (shows : ℕ → Type 0) (faults : A → ℕ)
-    (fits : Client → List (Timed Fact) → Type 0) (net net_now : A)
+pub record RunsAll {A B P L : Type 0} (source_tells : Type 0) (source : List ℕ) (asked : Configuration) (shows rolls : ℕ → Type 0) (faults : A → ℕ)
+    (heard_by : L → List Event) (fits : Client → List (Timed Fact) → Type 0) (given given_back : Given A P L)
     (out_tells : Type 0) (written_to : B → List ℕ) (old new : B) (s : Status) (trail : Trail) : Type 0 where
   pub client : Client
   pub of_words : IsClient source_tells source asked client
-  pub did : Did shows faults fits net net_now client s trail
+  pub did : Did shows rolls faults heard_by fits (record { client = client; faults = faults given.net; listeners = listeners_in given.hooks }) given_back.net given_back.hooks s trail
   pub reports : Reports out_tells written_to old new client s trail
 
 -- A run that read its words, and did not end before its first command: so it ran; or memory was wanting, and nothing was done.
-abbrev pub Runs : {A B : Type 0} → Type 0 → List ℕ → Configuration → (ℕ → Type 0) → (A → ℕ) → (Client → List (Timed Fact) → Type 0) → (net net_now : A) → Type 0 → (B → List ℕ) → (old new : B) →
-    Status → Trail → Type 0
-Runs source_tells source asked shows faults fits net net_now out_tells written_to old new s trail =
-    RunsAll source_tells source asked shows faults fits net net_now out_tells written_to old new s trail
-    ⊎ ((s ≡ status.Memory) × IsNothing net net_now trail out_tells written_to old new)
+abbrev pub Runs : {A B P L : Type 0} → Type 0 → List ℕ → Configuration → (ℕ → Type 0) → (ℕ → Type 0) → (A → ℕ) → (L → List Event) → (Client → List (Timed Fact) → Type 0) →
+    (given given_back : Given A P L) → Type 0 → (B → List ℕ) → (old new : B) → Status → Trail → Type 0
+Runs source_tells source asked shows rolls faults heard_by fits given given_back out_tells written_to old new s trail =
+    RunsAll source_tells source asked shows rolls faults heard_by fits given given_back out_tells written_to old new s trail
+    ⊎ ((s ≡ status.Memory) × IsNothing given given_back trail out_tells written_to old new)
 
 -- The number that the program ends with.
 -- own: as the statuses of the command line are told.
@@ -195,18 +207,18 @@ exit_code status.Memory = 6
 -- ---- What only private functions cite
 
 -- Commands were run by a client with those settings, which did that, and were reported so.
-pub record RunsClient {A B : Type 0} (settings : Configuration) (commands : List Command) (shows : ℕ → Type 0) (faults : A → ℕ)
-    (fits : Client → List (Timed Fact) → Type 0) (net net_now : A)
+pub record RunsClient {A B P L : Type 0} (settings : Configuration) (commands : List Command) (shows rolls : ℕ → Type 0) (faults : A → ℕ)
+    (heard_by : L → List Event) (fits : Client → List (Timed Fact) → Type 0) (given given_back : Given A P L)
     (out_tells : Type 0) (written_to : B → List ℕ) (old new : B) (s : Status) (trail : Trail) : Type 0 where
   pub client : Client
   pub given_settings : client.settings ≡ settings
   pub given_commands : client.commands ≡ commands
-  pub did : Did shows faults fits net net_now client s trail
+  pub did : Did shows rolls faults heard_by fits (record { client = client; faults = faults given.net; listeners = listeners_in given.hooks }) given_back.net given_back.hooks s trail
   pub reports : Reports out_tells written_to old new client s trail
 
 -- So it was, or memory was wanting, and nothing was done.
-abbrev pub RunsGiven : {A B : Type 0} → Configuration → List Command → (ℕ → Type 0) → (A → ℕ) → (Client → List (Timed Fact) → Type 0) → (net net_now : A) → Type 0 → (B → List ℕ) → (old new : B) →
-    Status → Trail → Type 0
-RunsGiven settings commands shows faults fits net net_now out_tells written_to old new s trail =
-    RunsClient settings commands shows faults fits net net_now out_tells written_to old new s trail
-    ⊎ ((s ≡ status.Memory) × IsNothing net net_now trail out_tells written_to old new)
+abbrev pub RunsGiven : {A B P L : Type 0} → Configuration → List Command → (ℕ → Type 0) → (ℕ → Type 0) → (A → ℕ) → (L → List Event) → (Client → List (Timed Fact) → Type 0) →
+    (given given_back : Given A P L) → Type 0 → (B → List ℕ) → (old new : B) → Status → Trail → Type 0
+RunsGiven settings commands shows rolls faults heard_by fits given given_back out_tells written_to old new s trail =
+    RunsClient settings commands shows rolls faults heard_by fits given given_back out_tells written_to old new s trail
+    ⊎ ((s ≡ status.Memory) × IsNothing given given_back trail out_tells written_to old new)

@@ -8,6 +8,9 @@ use Rattle.member_hall.specs.Halls.{HallState}
 use Rattle.member_hall.specs.Plans.{new_hall}
 use Rattle.soak_plan.specs.Commands.{commands_of}
 use Rattle.soak_plan.specs.Plans.{plan_of}
+use Rattle.drv_events.specs.declared.event.Event.{Event}
+use Rattle.drv_events.specs.declared.hooks.HooksOf.{HooksOf}
+use Rattle.desk_share.specs.Shared.{Opened, listeners_in}
 use Rattle.desk_trail.specs.declared.trail.Trail.{Trail}
 use Rattle.desk_trail.specs.Clients.{Client}
 use Rattle.desk_trail.specs.Facts.{Fact, facts_of}
@@ -46,25 +49,27 @@ soak_hall seed count = new_hall soak_set soak_hosts (plan_of seed (count / 10))
 -- moment). With no premise, each command took effect at most once, at every moment and by the log of every member, and a write that was
 -- answered ok exactly once (`once`). The status is the verdict of all commands (`verdict`), and what was written sums up what happened
 -- (`written`).
-pub record SoaksAll {A : Type 0} (seed count : ℕ) (out_tells : Type 0) (written_to : A → List ℕ) (old new : A) (s : Status) (trail : Trail) (hall : HallState) : Type 0 where
+pub record SoaksAll {A L : Type 0} (seed count : ℕ) (heard_by : L → List Event) (hooks_given hooks : HooksOf L) (out_tells : Type 0) (written_to : A → List ℕ) (old new : A) (s : Status) (trail : Trail) (hall : HallState) : Type 0 where
   pub client : Client
   pub settings : client.settings ≡ soak_settings
   pub commands : client.commands ≡ commands_of count
-  pub did : Did (λ _. Unit {0}) (λ (h : HallState). count_of h.faults) (λ by told. IsOfNet hall.events by told) (soak_hall seed count) hall client s trail
+  pub did : Did (λ _. Unit {0}) (λ _. Unit {0}) (λ (h : HallState). count_of h.faults) heard_by (λ by told. IsOfNet hall.events by told)
+      (record { client = client; faults = count_of (soak_hall seed count).faults; listeners = listeners_in hooks_given }) hall hooks s trail
   pub once : (op : ℕ) → TakesEffectOnce client (facts_of (lists_of trail) trail.steps) hall.events op
   pub verdict : Shows s (all_ok client trail)
   pub written : out_tells → Writes s (summary_text (summary_of client trail hall)) (written_to old) (written_to new)
 
 -- Memory was wanting before there were members, and nothing was done.
-pub record SoaksNot {A : Type 0} (out_tells : Type 0) (written_to : A → List ℕ) (old new : A) (s : Status) (trail : Trail) : Type 0 where
+pub record SoaksNot {A L : Type 0} (hooks_given hooks : HooksOf L) (out_tells : Type 0) (written_to : A → List ℕ) (old new : A) (s : Status) (trail : Trail) : Type 0 where
   pub memory : s ≡ status.Memory
   pub trail_is : trail ≡ no_trail
+  pub hooks_are : hooks ≡ hooks_given
   pub written : out_tells → written_to new ≡ written_to old
 
 -- By the members that it leaves.
-abbrev pub Soaks : {A : Type 0} → (seed count : ℕ) → Type 0 → (A → List ℕ) → (old new : A) → Status → Trail → Option HallState → Type 0
-Soaks seed count out_tells written_to old new s trail None = SoaksNot out_tells written_to old new s trail
-Soaks seed count out_tells written_to old new s trail (Some hall) = SoaksAll seed count out_tells written_to old new s trail hall
+abbrev pub Soaks : {A L : Type 0} → (seed count : ℕ) → (L → List Event) → (hooks_given hooks : HooksOf L) → Type 0 → (A → List ℕ) → (old new : A) → Status → Trail → Option HallState → Type 0
+Soaks seed count heard_by hooks_given hooks out_tells written_to old new s trail None = SoaksNot hooks_given hooks out_tells written_to old new s trail
+Soaks seed count heard_by hooks_given hooks out_tells written_to old new s trail (Some hall) = SoaksAll seed count heard_by hooks_given hooks out_tells written_to old new s trail hall
 
 -- ---- What only private functions cite
 
@@ -82,12 +87,13 @@ pub record IsIndexed (client : Client) (facts : List (Timed Fact)) (index : BySt
   pub index_of : IsIndexOf index facts
 
 -- A client ran over those members, and was summed up so.
-pub record SoaksTo {A : Type 0} (first hall : HallState) (client : Client) (shows : ℕ → Type 0) (out_tells : Type 0) (written_to : A → List ℕ) (old new : A) (s : Status) (trail : Trail) : Type 0 where
-  pub did : Did shows (λ (h : HallState). count_of h.faults) (λ by told. IsOfNet hall.events by told) first hall client s trail
-  pub once : (op : ℕ) → TakesEffectOnce client (facts_of (lists_of trail) trail.steps) hall.events op
-  pub verdict : Shows s (all_ok client trail)
-  pub written : out_tells → Writes s (summary_text (summary_of client trail hall)) (written_to old) (written_to new)
+pub record SoaksTo {A L : Type 0} (hall : HallState) (shows rolls : ℕ → Type 0) (heard_by : L → List Event) (opened : Opened) (hooks : HooksOf L)
+    (out_tells : Type 0) (written_to : A → List ℕ) (old new : A) (s : Status) (trail : Trail) : Type 0 where
+  pub did : Did shows rolls (λ (h : HallState). count_of h.faults) heard_by (λ by told. IsOfNet hall.events by told) opened hall hooks s trail
+  pub once : (op : ℕ) → TakesEffectOnce opened.client (facts_of (lists_of trail) trail.steps) hall.events op
+  pub verdict : Shows s (all_ok opened.client trail)
+  pub written : out_tells → Writes s (summary_text (summary_of opened.client trail hall)) (written_to old) (written_to new)
 
-abbrev pub SoaksDesk : {A : Type 0} → HallState → Client → (ℕ → Type 0) → Type 0 → (A → List ℕ) → (old new : A) → Status → Trail → Option HallState → Type 0
-SoaksDesk first client shows out_tells written_to old new s trail None = ⊥
-SoaksDesk first client shows out_tells written_to old new s trail (Some hall) = SoaksTo first hall client shows out_tells written_to old new s trail
+abbrev pub SoaksDesk : {A L : Type 0} → (shows rolls : ℕ → Type 0) → (L → List Event) → Opened → HooksOf L → Type 0 → (A → List ℕ) → (old new : A) → Status → Trail → Option HallState → Type 0
+SoaksDesk shows rolls heard_by opened hooks out_tells written_to old new s trail None = ⊥
+SoaksDesk shows rolls heard_by opened hooks out_tells written_to old new s trail (Some hall) = SoaksTo hall shows rolls heard_by opened hooks out_tells written_to old new s trail

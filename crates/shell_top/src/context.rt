@@ -1,16 +1,16 @@
-use net_link::{Clock, Dice};
+use net_link::{Clock, Gate};
 use std::alloc::Global;
 use std::sync::Wait;
 
-/// What all calls of a run share: the runtime, an allocator, the clock and the dice.
+/// What all calls of a run share: the runtime, an allocator, the clock and the gate.
 #[derive(Drop)]
-pub struct Context<'a, R: Wait, C: Clock, D: Dice> {
+pub struct Context<'a, R: Wait, C: Clock, G: Gate> {
     /// The runtime, for waiting.
     pub rt: &'a R,
     /// The allocator.
     pub alloc: Global,
     /// The clock.
     pub clock: &'a C,
-    /// The dice.
-    pub dice: D,
+    /// The gate that each command passes ahead of its first step and behind its last.
+    pub gate: &'a G,
 }

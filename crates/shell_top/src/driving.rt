@@ -1,55 +1,81 @@
-//! The commands are run, one behind the other.
-ghost use Rattle.std.specs.Prelude.{◌≡◌, ◌<◌, ◌≤◌, None, OnOk, IsSome, Some, false, length, slice_get};
+//! The commands are run by one thread, one behind the other.
+ghost use Rattle.std.specs.Prelude.{◌≡◌, ◌<◌, ◌≤◌, OnOk, IsSome, false, length};
 ghost use Rattle.trail_tally.specs.Tallies.{AreAnswered, answer_of};
-ghost use Rattle.trail_tally.specs.declared.tally.Tally.{Tally as CommandTally};
 ghost use Rattle.shell_top.specs.Going.{GoesOn, IsTold};
 
 use crate::context::Context;
-use crate::waiting::{Patience, drive_checks};
+use crate::waiting::drive_checks;
 use bson_doc::Memory;
-use desk_core::{Desk, Sight, Words};
-use net_link::{Clock, Dice, Net};
-use server_pick::KeepAll;
+use desk_core::Sight;
+use desk_share::{DrivenDesk, Opening, Patience};
+use drv_events::Listener;
+use net_link::{Clock, Dice, Gate, Net, Phase};
+use server_pick::Picker;
+use std::alloc::AllocError;
 use std::sync::Wait;
-use trail_tally::laws::{a_command_that_no_entry_answers_goes_on, an_answer_stays};
+use trail_tally::laws::an_answer_stays;
 use trail_tally::{Tally, is_answered, note};
 
-/// Runs the commands in their order, each until it is answered.
-pub fn drive<R: Wait, N: Net, C: Clock, D: Dice>(
-    context: &mut Context<'_, R, C, D>,
-    desk: &mut Desk<N, KeepAll>,
+/// Runs the commands that are not answered, in their order, each until it is.
+pub fn drive<R: Wait, N: Net, P: Picker, L: Listener, D: Dice, C: Clock, G: Gate, J: Opening>(
+    context: &Context<'_, R, C, G>,
+    desk: &mut DrivenDesk<N, P, L, D, C, J>,
     tallies: &mut [Tally],
 ) -> Result<(), Memory>
-    requires runs { desk.old.is_stopped ≡ false }
-    requires told { IsTold desk.old tallies.old }
+    requires told { IsTold desk.old.desk tallies.old }
     requires few { length tallies.old ≤ 100000 }
-    ensures goes { GoesOn C.shows N.faults desk.old desk.new }
-    ensures told { IsTold desk.new tallies.new }
-    ensures ok { OnOk result (desk.new.is_stopped ≡ false) }
-    ensures answered { OnOk result (AreAnswered desk.new.trail.client.commands desk.new.trail.steps) }
+    ensures goes { GoesOn desk.old.desk desk.new.desk }
+    ensures told { IsTold desk.new.desk tallies.new }
+    ensures ok { OnOk result (desk.new.desk.is_stopped ≡ false) }
+    ensures answered { OnOk result (AreAnswered desk.new.desk.trail.client.commands desk.new.desk.trail.steps) }
 {
     an_answer_stays();
     let count = tallies.len();
     'commands: for op in 0..count {
         run_command(context, desk, tallies, op as u32)?;
     }
+    if desk.is_stopped() {
+        return Err(AllocError);
+    }
     Ok(())
 }
 
-/// Steps a command until it is answered. While it waits checks are driven.
-fn run_command<R: Wait, N: Net, C: Clock, D: Dice>(
-    context: &mut Context<'_, R, C, D>,
-    desk: &mut Desk<N, KeepAll>,
+/// Steps a command until it is answered, between two passes of the gate, unless it was. While it waits checks are driven.
+fn run_command<R: Wait, N: Net, P: Picker, L: Listener, D: Dice, C: Clock, G: Gate, J: Opening>(
+    context: &Context<'_, R, C, G>,
+    desk: &mut DrivenDesk<N, P, L, D, C, J>,
     tallies: &mut [Tally],
     op: u32,
 ) -> Result<(), Memory>
-    requires runs { desk.old.is_stopped ≡ false }
-    requires told { IsTold desk.old tallies.old }
+    requires told { IsTold desk.old.desk tallies.old }
     requires given { op < length tallies.old }
-    ensures goes { GoesOn C.shows N.faults desk.old desk.new }
-    ensures told { IsTold desk.new tallies.new }
-    ensures ok { OnOk result (desk.new.is_stopped ≡ false) }
-    ensures answered { OnOk result (IsSome (answer_of op desk.new.trail.steps)) }
+    ensures goes { GoesOn desk.old.desk desk.new.desk }
+    ensures told { IsTold desk.new.desk tallies.new }
+    ensures answered { OnOk result (IsSome (answer_of op desk.new.desk.trail.steps)) }
+{
+    if is_answered(tallies, op) {
+        return Ok(());
+    }
+    let lane = desk.commands()[op as usize].lane;
+    context.gate.pass(lane, op, Phase::Before);
+    let answered = step_through(context, desk, tallies, lane, op);
+    context.gate.pass(lane, op, Phase::After);
+    answered
+}
+
+/// Steps what comes next in the command's lane until the command is answered.
+fn step_through<R: Wait, N: Net, P: Picker, L: Listener, D: Dice, C: Clock, G: Gate, J: Opening>(
+    context: &Context<'_, R, C, G>,
+    desk: &mut DrivenDesk<N, P, L, D, C, J>,
+    tallies: &mut [Tally],
+    lane: u32,
+    op: u32,
+) -> Result<(), Memory>
+    requires told { IsTold desk.old.desk tallies.old }
+    requires given { op < length tallies.old }
+    ensures goes { GoesOn desk.old.desk desk.new.desk }
+    ensures told { IsTold desk.new.desk tallies.new }
+    ensures answered { OnOk result (IsSome (answer_of op desk.new.desk.trail.steps)) }
 {
     let mut patience = Patience::new();
     let rt = context.rt;
@@ -57,7 +83,11 @@ fn run_command<R: Wait, N: Net, C: Clock, D: Dice>(
         if is_answered(tallies, op) {
             return Ok(());
         }
-        if let Sight::Wait { until } = step_command(context, desk, tallies, op)? {
+        let sight = step_lane(context, desk, tallies, lane);
+        if desk.is_stopped() {
+            return Err(AllocError);
+        }
+        if let Some(Sight::Wait { until }) = sight {
             drive_checks(context, desk, tallies)?;
             context.clock.rest(patience.next_rest(until));
         }
@@ -65,35 +95,20 @@ fn run_command<R: Wait, N: Net, C: Clock, D: Dice>(
     unreachable!()
 }
 
-/// Steps a command once.
-fn step_command<R: Wait, N: Net, C: Clock, D: Dice>(
-    context: &mut Context<'_, R, C, D>,
-    desk: &mut Desk<N, KeepAll>,
+/// One step of what comes next in a lane.
+fn step_lane<R: Wait, N: Net, P: Picker, L: Listener, D: Dice, C: Clock, G: Gate, J: Opening>(
+    context: &Context<'_, R, C, G>,
+    desk: &mut DrivenDesk<N, P, L, D, C, J>,
     tallies: &mut [Tally],
-    op: u32,
-) -> Result<Sight, Memory>
-    requires runs { desk.old.is_stopped ≡ false }
-    requires told { IsTold desk.old tallies.old }
-    requires waits { (t : CommandTally) × (slice_get tallies.old op ≡ Some t) × (t.answer ≡ None) }
-    ensures goes { GoesOn C.shows N.faults desk.old desk.new }
-    ensures told { IsTold desk.new tallies.new }
-    ensures ok { OnOk result (desk.new.is_stopped ≡ false) }
+    lane: u32,
+) -> Option<Sight>
+    requires told { IsTold desk.old.desk tallies.old }
+    ensures goes { GoesOn desk.old.desk desk.new.desk }
+    ensures told { IsTold desk.new.desk tallies.new }
 {
-    a_command_that_no_entry_answers_goes_on();
-    let words = words_of(&mut context.dice);
     let moment = context.clock.now();
     let behind = desk.steps().len();
-    let sight = desk.step_op(context.alloc, op, moment, words);
+    let sight = desk.turn(context.alloc, lane, moment);
     note(tallies, &desk.steps()[behind..]);
     sight
-}
-
-/// Four words of the dice.
-fn words_of<D: Dice>(dice: &mut D) -> Words {
-    Words {
-        a: dice.word(),
-        b: dice.word(),
-        c: dice.word(),
-        d: dice.word(),
-    }
 }

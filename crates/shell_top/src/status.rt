@@ -2,9 +2,11 @@ ghost use Rattle.std.specs.Prelude.{◌≡◌};
 ghost use Rattle.shell_top.specs.Run.{exit_code};
 
 use desk_trail::Trail;
+use drv_events::{Hooks, HooksOf};
 use member_hall::Hall;
 use run_words::UseFault;
 use script_text::ScriptFault;
+use server_pick::Picker;
 
 /// How a run ended. The program ends with the status' number.
 #[derive(Debug, Drop)]
@@ -42,7 +44,7 @@ impl Status {
     }
 }
 
-/// What a run leaves: how it ended, the net, and the trail of all that its client did.
+/// What a run leaves: how it ended, what it was given, and the trail of all that its client did.
 #[derive(Drop)]
 pub struct Ended<N> {
     /// How it ended.
@@ -51,6 +53,27 @@ pub struct Ended<N> {
     pub net: N,
     /// What the client did; nothing where the run ended before its first command.
     pub trail: Trail,
+    /// The listeners that are still there, and how many left.
+    pub hooks: Hooks,
+    /// The picker that was handed in.
+    pub picker: Box<dyn Picker>,
     /// The members that a soak played in memory, as it left them; there are some exactly behind a soak that made them.
+    pub soaked: Option<Hall>,
+}
+
+/// What a run is given, and gives back.
+#[derive(Drop)]
+pub struct Given<N, P, L> {
+    pub net: N,
+    pub picker: P,
+    pub hooks: HooksOf<L>,
+}
+
+/// The same of a run with a picker and listeners of any types.
+#[derive(Drop)]
+pub struct Ran<N, P, L> {
+    pub status: Status,
+    pub given: Given<N, P, L>,
+    pub trail: Trail,
     pub soaked: Option<Hall>,
 }

@@ -17,14 +17,13 @@ use cmd_build::Command;
 use desk_core::Finished;
 use effect_count::RequestIndex;
 use member_hall::Hall;
-use server_pick::KeepAll;
 use std::alloc::{AllocError, Global};
 use trail_tally::Tally;
 
 /// Sums up what came of a client's commands, and what its members did.
-pub fn summary_of(
+pub fn summary_of<P>(
     alloc: Global,
-    finished: &Finished<Hall, KeepAll>,
+    finished: &Finished<Hall, P>,
     tallies: &[Tally],
 ) -> Result<Summary, Memory>
     requires few { length tallies.now ≤ 100000 }

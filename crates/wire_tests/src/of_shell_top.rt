@@ -5,11 +5,16 @@ mod waiting;
 
 use bson_doc::{Bytes, Rows, Text};
 use desk_trail::Purpose;
-use net_link::{ListDice, NetEvent, ScriptNet, SliceSource, StreamPlan, TickClock, VecSink};
+use drv_events::Hooks;
+use net_link::{
+    ListDice, NetEvent, OpenGate, ScriptNet, SliceSource, StreamPlan, TickClock, VecSink,
+};
+use server_pick::KeepAll;
 use shell_top::{Ended, run};
 use std::alloc::Global;
 use std::sync::Wait;
 use std::test::Fail;
+use std::thread::Threads;
 
 /// The script of one insert.
 const SCRIPT: &str = r#"{"lane":1,"op":"insert","coll":"a","doc":{"_id":7}}"#;
@@ -50,7 +55,7 @@ fn plan(alloc: Global, bytes: &[u8]) -> Result<StreamPlan, Fail> {
 }
 
 /// Runs the script over a net with two streams, of the check and of the connection.
-fn over_script<R: Wait>(
+fn over_script<R: Threads + Wait + Sync>(
     rt: &R,
     alloc: Global,
     out: &mut VecSink,
@@ -63,7 +68,20 @@ fn over_script<R: Wait>(
     let words = one_host(alloc)?;
     let mut script = source(alloc)?;
     let dice = ListDice::new(Rows::take(alloc, &[1])?);
-    Ok(run(rt, alloc, &words, &mut script, out, net, &clock, dice))
+    let picker = Box::new(alloc, KeepAll)?;
+    Ok(run(
+        rt,
+        alloc,
+        &words,
+        &mut script,
+        out,
+        net,
+        &clock,
+        dice,
+        Hooks::new(alloc),
+        picker,
+        &OpenGate,
+    ))
 }
 
 #[test]

@@ -5,11 +5,14 @@ ghost use Rattle.net_link.specs.Causes.{count_of-below};
 
 use super::{CHECK, CONNECTION, one_host, source};
 use bson_doc::Rows;
-use net_link::{Came, Clock, Dialed, ListDice, Net, TickClock, VecSink, Wrote};
+use drv_events::Hooks;
+use net_link::{Came, Clock, Dialed, ListDice, Net, OpenGate, TickClock, VecSink, Wrote};
+use server_pick::KeepAll;
 use shell_top::run;
 use std::alloc::Global;
 use std::sync::Wait;
 use std::test::Fail;
+use std::thread::Threads;
 
 /// A net that tells nothing, and takes and gives one byte at a call.
 #[derive(Drop)]
@@ -115,7 +118,7 @@ struct Left {
 }
 
 /// Runs the script of one insert over a slow net.
-fn over_slow<R: Wait, C: Clock>(
+fn over_slow<R: Threads + Wait + Sync, C: Clock + Send + Sync>(
     rt: &R,
     alloc: Global,
     clock: &C,
@@ -134,7 +137,20 @@ fn over_slow<R: Wait, C: Clock>(
     let words = one_host(alloc)?;
     let mut script = source(alloc)?;
     let dice = ListDice::new(Rows::take(alloc, &[1])?);
-    let ended = run(rt, alloc, &words, &mut script, &mut out, net, clock, dice);
+    let picker = Box::new(alloc, KeepAll)?;
+    let ended = run(
+        rt,
+        alloc,
+        &words,
+        &mut script,
+        &mut out,
+        net,
+        clock,
+        dice,
+        Hooks::new(alloc),
+        picker,
+        &OpenGate,
+    );
     Ok(Left {
         code: ended.status.code(),
         out,

@@ -1,7 +1,6 @@
-use Rattle.std.proofs.Common.{ap}
-use Rattle.shell_top.proofs.GoingLemmas.{begins}
+use Rattle.shell_top.proofs.ListenerLemmas.{listeners-told}
 use Rattle.shell_top.proofs.running.open.Goals as goal
 
-pub returns-in-Ok-clause-begins : goal.returns-in-Ok-clause-begins
-returns-in-Ok-clause-begins g c =
-    begins g.C.Clock.shows c.now-moment.result c.in-Ok.desk c.now-moment.ensures (ap (λ x. x.began) c.in-Ok.ensures.client) c.in-Ok.ensures.now c.in-Ok.ensures.quiet
+pub returns-in-Ok-clause-listeners : goal.returns-in-Ok-clause-listeners
+returns-in-Ok-clause-listeners g c =
+    listeners-told g.L.Listener.heard g.L.Listener.leaves c.all_are_counted.ensures _ c.args.given.hooks c.in-Ok.desk.hooks c.in-Ok.ensures.heard

@@ -8,7 +8,7 @@ returns-in-Ok-clause-script g c =
 
 pub returns-in-Ok-clause-runs : goal.returns-in-Ok-clause-runs
 returns-in-Ok-clause-runs g c =
-    λ reached. runs-so _ _ _ c.in-Ok.commands g.C.Clock.shows g.N.Net.faults _ _ _ _ g.K.Sink.written _ _ _ _ (tells-ok _ _ c.in-Ok.commands c.in-Ok.ensures.reads) c.run_commands.ensures.runs
+    λ reached. runs-so _ _ _ c.in-Ok.commands g.C.Clock.shows g.D.Dice.rolls g.N.Net.faults g.L.Listener.heard _ _ _ _ g.K.Sink.written _ _ _ _ (tells-ok _ _ c.in-Ok.commands c.in-Ok.ensures.reads) c.run_commands.ensures.runs
 
 pub returns-in-Err-Fault-clause-script : goal.returns-in-Err-Fault-clause-script
 returns-in-Err-Fault-clause-script g c =

@@ -1,5 +1,4 @@
-use Rattle.std.proofs.Common.{◌≡◌, rules}
-use Rattle.shell_top.specs.Soak.{soak_hosts}
+use Rattle.std.proofs.Common.{rules}
 use Rattle.shell_top.proofs.SettingLemmas.{are-seeds, are-within}
 use Rattle.shell_top.proofs.soaking.hosts.Goals as goal
 

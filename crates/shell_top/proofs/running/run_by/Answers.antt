@@ -1,6 +1,6 @@
 use Rattle.std.proofs.Common.{ap, sym, ◌∙◌}
 use Rattle.run_words.specs.Words.{asks}
-use Rattle.shell_top.proofs.running.run.Goals as goal
+use Rattle.shell_top.proofs.running.run_by.Goals as goal
 
 pub returns-in-Ok-Soak-clause-soaked : goal.returns-in-Ok-Soak-clause-soaked
 returns-in-Ok-Soak-clause-soaked g c = λ some.

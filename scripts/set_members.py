@@ -2,9 +2,9 @@
 public documentation (hello, insert, find, error labels, retryable writes).
 
 `Replicas(version)` listens on three ports. `on_write` decides, by the number of a write that reaches the primary, what
-happens to it: "fail over" (the primary closes its streams and another member is elected; the write is not done), "lose the
-answer" (it is done, and the stream closed without an answer), "step down" (the primary answers that it is primary no more,
-and another is elected), or None. A write that comes again by its session and transaction number is answered as before and not
+happens to it: "fail over" (the primary closes its streams and another member is elected; the write is not done), "cut off" (the
+same, and the member is not reached again), "lose the answer" (it is done, and the stream closed without an answer), "step down"
+(the primary answers that it is primary no more, and another is elected), or None. A write that comes again by its session and transaction number is answered as before and not
 done again.
 """
 
@@ -143,6 +143,14 @@ def send_reply(connection, identity, document):
 
 # ---- The members
 
+def end(stream):
+    """Ends a stream, or has a listener take no more of them."""
+    try:
+        stream.shutdown(socket.SHUT_RDWR)
+    except OSError:
+        pass
+
+
 class Replicas:
     """Three members, of which at most one is primary."""
 
@@ -187,10 +195,7 @@ class Replicas:
             pass
         with self.lock:
             self.streams[member].discard(connection)
-        try:
-            connection.shutdown(socket.SHUT_RDWR)
-        except OSError:
-            pass
+        end(connection)
         connection.close()
 
     def answer(self, member, command):
@@ -278,13 +283,12 @@ class Replicas:
         if fate == "step down":
             self.elect()
             return self.refusal()
-        if fate == "fail over":
+        if fate in ("fail over", "cut off"):
             self.elect()
+            if fate == "cut off":
+                end(self.listeners[member])
             for stream in list(self.streams[member]):
-                try:
-                    stream.shutdown(socket.SHUT_RDWR)
-                except OSError:
-                    pass
+                end(stream)
             return None
         reply = self.done_write(command)
         if key is not None:

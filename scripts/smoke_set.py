@@ -21,9 +21,12 @@ SECONDS = 120
 LONG = 1000
 ELECTIONS = {101: "fail over", 303: "step down"}
 
+# How many lanes run at once, how many commands each has, and at which write the primary is cut off.
+LANES, EACH, CUT = 8, 200, 801
 
-def insert(place):
-    return f'{{"lane":1,"op":"insert","coll":"a","doc":{{"_id":{place}}}}}'
+
+def insert(place, lane=1):
+    return f'{{"lane":{lane},"op":"insert","coll":"a","doc":{{"_id":{place}}}}}'
 
 
 def find(place):
@@ -114,6 +117,27 @@ def case_of_set(program, version, fates, script, lines, status):
     return None if replicas.elections == wanted else f"{replicas.elections} elections, wanted {wanted}"
 
 
+def case_of_lanes(program):
+    """Eight lanes insert at once, and in the middle the primary is cut off: each insert is done once, and told in its line."""
+    count = LANES * EACH
+    replicas = Replicas("8.0", fate_at({CUT: "cut off"}))
+    try:
+        told, ended = run(program, replicas.hosts[0], [insert(place, (place - 1) % LANES + 1) for place in range(1, count + 1)])
+    except subprocess.TimeoutExpired:
+        return "did not end"
+    finally:
+        replicas.close()
+    again = [place for place in range(1, count + 1) if told[place - 1:place] == [ok(place, 2)]]
+    complaint = differs(told, [ok(place, 2 if place in again else 1) for place in range(1, count + 1)] + [f"done {count} ok {count}"])
+    if complaint or ended != 0:
+        return complaint or f"status {ended}, wanted 0"
+    if not again:
+        return "no insert was sent again"
+    if sorted(replicas.done) != list(range(1, count + 1)):
+        return f"{len(replicas.done)} inserts were done, {len(set(replicas.done))} of them once or more"
+    return None if replicas.elections == 1 else f"{replicas.elections} elections, wanted 1"
+
+
 def case_of_old(program):
     """MongoDB 4.4 speaks no wire version of this client."""
     replicas = Replicas("4.4")
@@ -156,6 +180,7 @@ def main():
         only, program = program[1], program[2:]
     cases = [(name, lambda c=case, v=version: case_of_set(program, v, *c)) for name, version, case in CASES]
     cases.append(("replies of MongoDB 4.4, which is too old", lambda: case_of_old(program)))
+    cases.append(("eight lanes of two hundred inserts, and the primary is cut off", lambda: case_of_lanes(program)))
     cases.append(("options of the connection string", lambda: case_of_options(program)))
     cases.append(("a set's name that is another", lambda: case_of_another_name(program)))
     passed = failed = 0

@@ -1,7 +1,7 @@
 /* Sends so many inserts, each on a connection of its own and as bytes that are made already, and reads each reply with
  * one call: what the system takes for that much.
  *
- * usage: bare_inserts PORT COUNT insert */
+ * usage: bare_inserts PORT COUNT insert 1 */
 #include <arpa/inet.h>
 #include <netinet/in.h>
 #include <netinet/tcp.h>
@@ -25,7 +25,7 @@ static const char request[] =
 int main(int argc, char **argv) {
   struct sockaddr_in address = {.sin_family = AF_INET, .sin_addr.s_addr = htonl(INADDR_LOOPBACK)};
   int on = 1;
-  if (argc != 4) return 2;
+  if (argc != 5) return 2;
   address.sin_port = htons(atoi(argv[1]));
   for (int i = atoi(argv[2]); i > 0; i--) {
     char reply[64];

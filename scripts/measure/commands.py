@@ -1,9 +1,9 @@
-"""Measures commands of one lane over loopback. Each program sends COUNT inserts or finds to the peer, ROUNDS times in turn;
-prints of each the quickest and the middle run, from its start to its end, what the quickest took of a processor, and the most
-memory that a run held.
+"""Measures commands over loopback. Each program sends COUNT inserts or finds to the peer, in all, from so many LANES at once,
+ROUNDS times in turn; prints of each the quickest and the middle run, from its start to its end, what the quickest took of a
+processor, and the most memory that a run held.
 
-usage: commands.py PEER MDC insert|find COUNT ROUNDS [NAME PROGRAM]..    with an odd number of rounds; a PROGRAM is given
-PORT COUNT insert|find
+usage: commands.py PEER MDC insert|find COUNT LANES ROUNDS [NAME PROGRAM]..    with an odd number of rounds; a PROGRAM is given
+PORT COUNT insert|find LANES
 """
 
 import os
@@ -14,8 +14,8 @@ import time
 from pathlib import Path
 
 LINES = {
-    "insert": '{"lane":1,"op":"insert","coll":"a","doc":{"_id":7}}\n',
-    "find": '{"lane":1,"op":"find","coll":"a","filter":{"_id":7}}\n',
+    "insert": '{"lane":%d,"op":"insert","coll":"a","doc":{"_id":7}}\n',
+    "find": '{"lane":%d,"op":"find","coll":"a","filter":{"_id":7}}\n',
 }
 
 
@@ -38,8 +38,9 @@ class Run:
         self.out = files[1].read_text()
 
 
-def run_mdc(mdc, port, kind, count, folder):
-    run = Run([mdc, "run", f"mongodb://127.0.0.1:{port}"], folder, LINES[kind] * count)
+def run_mdc(mdc, port, kind, count, lanes, folder):
+    script = "".join(LINES[kind] % (place % lanes + 1) for place in range(count))
+    run = Run([mdc, "run", f"mongodb://127.0.0.1:{port}"], folder, script)
     if not run.out.endswith(f"\ndone {count} ok {count}\n"):
         sys.exit(f"mdc did not carry out all: {run.out[-200:]}")
     return run
@@ -54,12 +55,12 @@ def port_of(path):
 
 
 def main():
-    peer, mdc, kind, count, rounds, *others = sys.argv[1:]
-    count, rounds = int(count), int(rounds)
+    peer, mdc, kind, count, lanes, rounds, *others = sys.argv[1:]
+    count, lanes, rounds = int(count), int(lanes), int(rounds)
     with tempfile.TemporaryDirectory() as folder:
-        programs = {"mdc": lambda port: run_mdc(mdc, port, kind, count, folder)}
+        programs = {"mdc": lambda port: run_mdc(mdc, port, kind, count, lanes, folder)}
         for name, program in zip(others[::2], others[1::2]):
-            programs[name] = lambda port, program=program: Run([program, port, str(count), kind], folder)
+            programs[name] = lambda port, program=program: Run([program, port, str(count), kind, str(lanes)], folder)
         port_file = Path(folder, "port")
         with subprocess.Popen([peer, port_file], stdin=subprocess.PIPE) as serving:
             port = port_of(port_file)
@@ -68,7 +69,7 @@ def main():
                 for name, program in programs.items():
                     runs[name].append(program(port))
             serving.stdin.close()
-    print(f"{kind + 's of one lane, ' + str(count):46} {'us, quickest':>13} {'us, middle':>11} {'a second':>9} {'us, processor':>14} {'MB':>6}")
+    print(f"{kind + 's, ' + str(count) + ', lanes: ' + str(lanes):46} {'us, quickest':>13} {'us, middle':>11} {'a second':>9} {'us, processor':>14} {'MB':>6}")
     for name, done in runs.items():
         times = sorted(run.seconds for run in done)
         processor = min(run.processor for run in done)

@@ -1,7 +1,7 @@
-// Sends so many inserts of {_id: 7}, or finds of it, by the official Go driver, one after another over the connection that it
-// keeps.
+// Sends so many inserts of {_id: 7}, or finds of it, by the official Go driver, over the connections that a client keeps: from
+// one goroutine one after another, or from so many at once, that number of them in all.
 //
-// usage: go_commands PORT COUNT insert|find
+// usage: go_commands PORT COUNT insert|find LANES
 package main
 
 import (
@@ -9,6 +9,7 @@ import (
 	"fmt"
 	"os"
 	"strconv"
+	"sync"
 
 	"go.mongodb.org/mongo-driver/bson"
 	"go.mongodb.org/mongo-driver/mongo"
@@ -50,8 +51,18 @@ func main() {
 	if os.Args[3] == "find" {
 		command = find
 	}
-	for i := 0; i < count; i++ {
-		command(background, collection, document)
+	lanes, err := strconv.Atoi(os.Args[4])
+	fail(err)
+	var running sync.WaitGroup
+	for lane := 0; lane < lanes; lane++ {
+		running.Add(1)
+		go func(lane int) {
+			defer running.Done()
+			for i := lane; i < count; i += lanes {
+				command(background, collection, document)
+			}
+		}(lane)
 	}
+	running.Wait()
 	fail(client.Disconnect(background))
 }

@@ -4,6 +4,7 @@
 //! [`facts`].
 #![tactic(auto)]
 
+mod ahead;
 mod events;
 mod facts;
 mod known;
@@ -12,11 +13,13 @@ mod runs;
 mod state;
 mod steps;
 
+use ahead::runs_of_files;
 use case_files::run_files;
 use state::State;
 use std::io;
 use std::process::ExitCode;
 
 fn main(rt: HostRuntime) -> io::Result<ExitCode> {
-    run_files(&rt, &mut State::opened(&rt, rt.alloc()))
+    let runs = runs_of_files(&rt)?;
+    run_files(&rt, &mut State::opened(rt.alloc(), runs))
 }

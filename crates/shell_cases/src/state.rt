@@ -1,17 +1,16 @@
+use crate::ahead::Runs;
 use crate::facts::fact_of;
 use crate::known::Known;
 use crate::runs::Run;
-use crate::steps::step_of;
+use crate::steps::{RUN, name_bytes};
 use case_files::{CaseFault, Subject, Words};
 use std::alloc::Global;
-use std::sync::Wait;
-use std::thread::Threads;
 
-/// What the steps made. Runs may wait, by `rt`.
+/// What the steps made.
 #[derive(Drop)]
-pub struct State<'a, R: Threads + Wait + Sync> {
-    /// What a run may wait by.
-    rt: &'a R,
+pub struct State {
+    /// What the runs that come came to.
+    runs: Runs,
     /// The bytes that have names.
     known: Known,
     /// What the last step did.
@@ -27,18 +26,18 @@ pub enum Told {
     Ran(Run),
 }
 
-impl<'a, R: Threads + Wait + Sync> State<'a, R> {
-    /// No bytes have a name yet.
-    pub fn opened(rt: &'a R, alloc: Global) -> State<'a, R> {
+impl State {
+    /// No bytes have a name yet, and no run was told.
+    pub fn opened(alloc: Global, runs: Runs) -> State {
         State {
-            rt,
+            runs,
             known: Known::new(alloc),
             told: Told::Named(0),
         }
     }
 }
 
-impl<R: Threads + Wait + Sync> Subject for State<'_, R> {
+impl Subject for State {
     fn begin(&mut self, alloc: Global) -> Result<(), CaseFault> {
         self.known = Known::new(alloc);
         self.told = Told::Named(0);
@@ -46,8 +45,20 @@ impl<R: Threads + Wait + Sync> Subject for State<'_, R> {
     }
 
     fn step(&mut self, alloc: Global, words: &mut Words<'_>) -> Result<(), CaseFault> {
-        self.told = step_of(self.rt, alloc, &mut self.known, words)?;
-        Ok(())
+        let verb = words.next_as("step")?;
+        if verb != RUN {
+            self.told = Told::Named(name_bytes(alloc, &mut self.known, verb, words)?);
+            return Ok(());
+        }
+        // Its words were judged when it ran.
+        drop(words.rest(alloc));
+        match self.runs.pop_front() {
+            Some(run) => {
+                self.told = Told::Ran(run?);
+                Ok(())
+            }
+            None => Err(CaseFault::Missing("run")),
+        }
     }
 
     fn fact(&self, alloc: Global, name: &str) -> Result<Option<String>, CaseFault> {

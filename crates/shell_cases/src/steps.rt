@@ -4,27 +4,22 @@
 //! - `text NAME [times=N] [open] WORD..` puts the words there as a line, so many times, which ends with LF unless it is open;
 //! - `zeros NAME count=N letters=N` puts there the line of an insert whose document has an array of so many zeros and a text
 //!   of so many letters;
-//! - `mdc WORD..` runs a script, as [`ran`] says.
+//! - `mdc WORD..` runs a script, as [`ran`](crate::runs::ran) says.
 use crate::known::Known;
 use crate::quoted::push_word;
-use crate::runs::ran;
-use crate::state::Told;
 use case_files::{CaseFault, Words, parsed};
 use std::alloc::Global;
-use std::sync::Wait;
-use std::thread::Threads;
 
-/// Takes the step of these words.
-pub fn step_of<R: Threads + Wait + Sync>(
-    rt: &R,
+/// The first word of a step that runs a script.
+pub const RUN: &str = "mdc";
+
+/// Takes the step of these words behind their first one, which is no run: how many bytes its name has then.
+pub fn name_bytes(
     alloc: Global,
     known: &mut Known,
+    verb: &str,
     words: &mut Words<'_>,
-) -> Result<Told, CaseFault> {
-    let verb = words.next_as("step")?;
-    if verb == "mdc" {
-        return Ok(Told::Ran(ran(rt, alloc, known, words)?));
-    }
+) -> Result<usize, CaseFault> {
     let bytes_of = match verb {
         "bytes" | "text" | "zeros" => words.next_as("name")?,
         _ => return Err(CaseFault::word(alloc, verb)),
@@ -34,7 +29,7 @@ pub fn step_of<R: Threads + Wait + Sync>(
         "text" => text(alloc, words)?,
         _ => zeros(alloc, words)?,
     };
-    Ok(Told::Named(known.add(alloc, bytes_of, &bytes)?))
+    Ok(known.add(alloc, bytes_of, &bytes)?)
 }
 
 fn bytes(alloc: Global, words: &mut Words<'_>) -> Result<Vec<u8>, CaseFault> {

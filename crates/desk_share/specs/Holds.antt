@@ -62,14 +62,14 @@ IsTurn faults rolls lane moment answer old new =
 -- ---- Checks
 
 -- What the answer of a check's step means: some, the desk goes on, and the check stands so; none, the desk stopped.
-abbrev pub MeansLook : {N P : Type 0} → (moment host : ℕ) → (old new : Desk N P) → Option Sight → Type 0
-MeansLook moment host old new (Some sight) = (new.is_stopped ≡ false) × MeansCheck new.trail.client new.trail.point.state (now_of old.last moment) host sight
-MeansLook moment host old new None = new.is_stopped ≡ true
+abbrev pub MeansCheckStep : {N P : Type 0} → (moment host : ℕ) → (old new : Desk N P) → Option Sight → Type 0
+MeansCheckStep moment host old new (Some sight) = (new.is_stopped ≡ false) × MeansCheck new.trail.client new.trail.point.state (now_of old.last moment) host sight
+MeansCheckStep moment host old new None = new.is_stopped ≡ true
 
--- One call of the check of a server, which appends no entry of a command; of a desk that stopped none.
-abbrev pub IsLook : {N P : Type 0} → (N → ℕ) → (host moment : ℕ) → Option Sight → (old new : Desk N P) → Type 0
-IsLook faults host moment answer old new =
-    ((new ≡ old) × (old.is_stopped ≡ true) × (answer ≡ None)) ⊎ (Calls faults NamesNone moment old new × MeansLook moment host old new answer)
+-- One step of the check of a server, which appends no entry of a command; of a desk that stopped none.
+abbrev pub IsCheckStep : {N P : Type 0} → (N → ℕ) → (host moment : ℕ) → Option Sight → (old new : Desk N P) → Type 0
+IsCheckStep faults host moment answer old new =
+    ((new ≡ old) × (old.is_stopped ≡ true) × (answer ≡ None)) ⊎ (Calls faults NamesNone moment old new × MeansCheckStep moment host old new answer)
 
 -- So many hosts have numbers where the check that comes next is due or runs at a moment; else none.
 abbrev pub due_by : (moment names : ℕ) → Option Due → ℕ

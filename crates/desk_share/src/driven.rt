@@ -2,7 +2,7 @@ ghost use Rattle.std.specs.Prelude.{◌≡◌, ◌++◌, List, false, replicate,
 ghost use Rattle.desk_trail.specs.declared.step.Step.{Step as TrailStep};
 ghost use Rattle.desk_core.specs.Nexts.{AreAnsweredAhead};
 ghost use Rattle.desk_share.specs.Closed.{IsClosed};
-ghost use Rattle.desk_share.specs.Holds.{AreWords, CountsDue, IsLook, IsNextNow, IsTurn};
+ghost use Rattle.desk_share.specs.Holds.{AreWords, CountsDue, IsCheckStep, IsNextNow, IsTurn};
 ghost use Rattle.desk_share.specs.Shared.{AreSoFar, Begins, IsShared, opened_by};
 
 use crate::Opening;
@@ -160,7 +160,7 @@ impl<N: Net, P: Picker, L: Listener, D: Dice, C: Clock, J: Opening> DrivenDesk<N
     /// One call of the check of one server; None where the desk stopped.
     pub fn check(&mut self, alloc: Global, host: u32, moment: u64) -> Option<Sight>
         requires shown { C.shows moment }
-        ensures checked { IsLook N.faults host moment result self.old.desk self.new.desk }
+        ensures checked { IsCheckStep N.faults host moment result self.old.desk self.new.desk }
     {
         if self.desk.is_stopped() {
             return None;

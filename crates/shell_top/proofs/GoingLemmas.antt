@@ -9,7 +9,7 @@ use Rattle.desk_trail.specs.declared.step.Step.{Step}
 use Rattle.desk_trail.specs.Clients.{Client}
 use Rattle.desk_core.specs.State.{Desk}
 use Rattle.desk_core.specs.declared.sight.Sight.{Sight}
-use Rattle.desk_share.specs.Holds.{IsLook, IsTurn}
+use Rattle.desk_share.specs.Holds.{IsCheckStep, IsTurn}
 use Rattle.write_retry.specs.declared.outcome.Outcome.{Outcome}
 use Rattle.trail_tally.specs.Tallies.{AreAnswered, AreTallies, answer_of}
 use Rattle.trail_tally.specs.declared.tally.Tally.{Tally}
@@ -31,14 +31,14 @@ goes-on old mid new a b = record {
   steps = b.steps ∙ ap (λ (l : List Step). l ++ b.added) a.steps ∙ append_assoc old.trail.steps a.added b.added;
 }
 
--- By a turn of a lane, and by a look at a check.
+-- By a turn of a lane, and by a step of a check.
 pub goes-turn : {N P : Type 0} (faults : N → ℕ) (rolls : ℕ → Type 0) (lane moment : ℕ) (answer : Option Sight) (old new : Desk N P) → IsTurn faults rolls lane moment answer old new → GoesOn old new
 goes-turn faults rolls lane moment answer old new (inl w) = goes-same old new w.0
 goes-turn faults rolls lane moment answer old new (inr s) = record { client = s.call.appends.client; added = s.call.appends.added; steps = s.call.appends.steps }
 
-pub goes-look : {N P : Type 0} (faults : N → ℕ) (host moment : ℕ) (answer : Option Sight) (old new : Desk N P) → IsLook faults host moment answer old new → GoesOn old new
-goes-look faults host moment answer old new (inl w) = goes-same old new w.0
-goes-look faults host moment answer old new (inr s) = record { client = s.0.appends.client; added = s.0.appends.added; steps = s.0.appends.steps }
+pub goes-check : {N P : Type 0} (faults : N → ℕ) (host moment : ℕ) (answer : Option Sight) (old new : Desk N P) → IsCheckStep faults host moment answer old new → GoesOn old new
+goes-check faults host moment answer old new (inl w) = goes-same old new w.0
+goes-check faults host moment answer old new (inr s) = record { client = s.0.appends.client; added = s.0.appends.added; steps = s.0.appends.steps }
 
 -- ---- A desk's tallies
 

@@ -24,6 +24,9 @@ ELECTIONS = {101: "fail over", 303: "step down"}
 # How many lanes run at once, how many commands each has, and at which write the primary is cut off.
 LANES, EACH, CUT = 8, 200, 801
 
+# How many commands each lane has where all share one connection.
+SHARING = 50
+
 
 def insert(place, lane=1):
     return f'{{"lane":{lane},"op":"insert","coll":"a","doc":{{"_id":{place}}}}}'
@@ -138,6 +141,23 @@ def case_of_lanes(program):
     return None if replicas.elections == 1 else f"{replicas.elections} elections, wanted 1"
 
 
+def case_of_one_connection(program):
+    """Eight lanes share the one connection that the pool may have: each waits for it in turn, and each insert is done once."""
+    count = LANES * SHARING
+    replicas = Replicas("8.0")
+    try:
+        script = [insert(place, (place - 1) % LANES + 1) for place in range(1, count + 1)]
+        told, ended = run(program, replicas.hosts[0], script, "?replicaSet=rs0&maxPoolSize=1")
+    except subprocess.TimeoutExpired:
+        return "did not end"
+    finally:
+        replicas.close()
+    complaint = differs(told, [ok(place) for place in range(1, count + 1)] + [f"done {count} ok {count}"])
+    if complaint or ended != 0:
+        return complaint or f"status {ended}, wanted 0"
+    return None if sorted(replicas.done) == list(range(1, count + 1)) else f"{len(replicas.done)} inserts were done"
+
+
 def case_of_old(program):
     """MongoDB 4.4 speaks no wire version of this client."""
     replicas = Replicas("4.4")
@@ -181,6 +201,7 @@ def main():
     cases = [(name, lambda c=case, v=version: case_of_set(program, v, *c)) for name, version, case in CASES]
     cases.append(("replies of MongoDB 4.4, which is too old", lambda: case_of_old(program)))
     cases.append(("eight lanes of two hundred inserts, and the primary is cut off", lambda: case_of_lanes(program)))
+    cases.append(("eight lanes over one connection", lambda: case_of_one_connection(program)))
     cases.append(("options of the connection string", lambda: case_of_options(program)))
     cases.append(("a set's name that is another", lambda: case_of_another_name(program)))
     passed = failed = 0

@@ -1,7 +1,12 @@
 use crate::Opening;
 use crate::driven::DrivenDesk;
+use crate::lane_clock::{LaneClock, Waits};
 use crate::patience::Patience;
+use crate::telling::{tell_check, tell_step};
+use crate::turned::Turned;
+use crate::turns::{PLACES, Turns};
 use desk_core::Sight;
+use desk_trail::Step;
 use drv_events::Listener;
 use net_link::{Clock, Dice, Gate, Net, Phase};
 use server_pick::Picker;
@@ -10,28 +15,22 @@ use std::sync::atomic::{AtomicU64, Ordering};
 use std::sync::{Mutex, MutexGuard, Wait};
 
 /// A client that threads share: a desk with listeners under a lock, whose type says what holds of it (own). Each of the functions that
-/// lock makes at most one call under the lock that appends, and none rests there.
+/// lock makes at most one call under the lock that appends, and none rests there. A lane asks for its turns; whoever takes some, in a
+/// hold each, takes those of all lanes that ask.
 pub struct Client<N: Net, P: Picker, L: Listener, D: Dice, C: Clock, J: Opening> {
     alloc: Global,
     desk: Mutex<DrivenDesk<N, P, L, D, C, J>>,
+    turns: Turns,
     lanes: u32,
     // how many of them ended
     ended: AtomicU64,
 }
 
-/// What a lane learns in one hold of the lock.
-#[derive(Clone, Copy, Debug)]
-struct Turned {
-    /// What the step of its command came to.
-    sight: Option<Sight>,
-    /// Of how many servers the check is to be driven, where the command waits.
-    due: u32,
-    /// The lane's next command, where this one was answered.
-    next: Option<u32>,
-}
+/// How often in a row a thread takes the turns of all lanes that ask.
+const ROUNDS: u32 = 4;
 
-impl<N: Net, P: Picker, L: Listener, D: Dice, C: Clock, J: Opening> Client<N, P, L, D, C, J> {
-    /// A client of a desk, for so many lanes. It takes no memory.
+impl<N: Net, P: Picker, L: Listener, D: Dice, C: LaneClock, J: Opening> Client<N, P, L, D, C, J> {
+    /// A client of a desk, for so many lanes. Where memory is wanting each lane takes its own turns.
     pub fn new(
         alloc: Global,
         desk: DrivenDesk<N, P, L, D, C, J>,
@@ -40,6 +39,7 @@ impl<N: Net, P: Picker, L: Listener, D: Dice, C: Clock, J: Opening> Client<N, P,
         Client {
             alloc,
             desk: Mutex::new(desk),
+            turns: Turns::new(alloc, lanes),
             lanes,
             ended: AtomicU64::new(0),
         }
@@ -58,6 +58,7 @@ impl<N: Net, P: Picker, L: Listener, D: Dice, C: Clock, J: Opening> Client<N, P,
             gate.pass(lane, op, Phase::After);
         }
         self.ended.fetch_add(1, Ordering::SeqCst);
+        clock.note_end();
     }
 
     /// Drives the checks of servers until no lane is left running.
@@ -78,6 +79,7 @@ impl<N: Net, P: Picker, L: Listener, D: Dice, C: Clock, J: Opening> Client<N, P,
         let Client {
             alloc: _,
             desk,
+            turns: _,
             lanes: _,
             ended: _,
         } = self;
@@ -87,18 +89,71 @@ impl<N: Net, P: Picker, L: Listener, D: Dice, C: Clock, J: Opening> Client<N, P,
     /// Steps the lane's next command until it is answered, or the desk stopped; the one that comes behind it.
     fn drive<R: Wait>(&self, rt: &R, lane: u32, clock: &C) -> Option<u32> {
         let mut patience = Patience::new();
+        let mut waited = Waits::Server;
         'turns: for _ in rt.forever() {
-            let Turned { sight, due, next } = self.turn(rt, lane, clock);
+            let Turned {
+                sight,
+                waits,
+                due,
+                next,
+            } = self.turn(rt, lane, clock, waited);
+            waited = waits;
             match sight {
                 Some(Sight::Again) => {}
                 Some(Sight::Wait { until }) => {
                     self.check_each(rt, due, clock);
-                    clock.rest(patience.next_rest(until));
+                    clock.rest_of(lane, patience.next_rest(until));
                 }
                 Some(Sight::Answered) | None => return next,
             }
         }
         unreachable!()
+    }
+
+    /// The turn of a lane, by this thread or by another.
+    fn turn<R: Wait>(&self, rt: &R, lane: u32, clock: &C, waited: Waits) -> Turned {
+        let Some(asked) = self.turns.ask(rt, lane, waited) else {
+            let turned = self.take_turn(rt, lane, clock, waited);
+            clock.note_free();
+            return turned;
+        };
+        'waiting: for _ in rt.forever() {
+            match self.turns.wait(rt, asked) {
+                Some(turned) => return turned,
+                None => self.take_turns(rt, clock),
+            }
+        }
+        unreachable!()
+    }
+
+    /// Takes the turns of all lanes that ask, then lets others in, and wakes the lanes of those turns that sleep.
+    fn take_turns<R: Wait>(&self, rt: &R, clock: &C) {
+        let mut sleeping: u64 = 0;
+        'rounds: for _ in 0..ROUNDS {
+            let asking = self.turns.take_asking();
+            if asking == 0 {
+                break;
+            }
+            sleeping |= self.take_round(rt, asking, clock);
+        }
+        self.turns.leave(rt);
+        self.turns.wake(sleeping);
+        clock.note_free();
+    }
+
+    /// Takes the turns of these lanes, a bit for each; those of them that sleep.
+    fn take_round<R: Wait>(&self, rt: &R, asking: u64, clock: &C) -> u64 {
+        let mut sleeping: u64 = 0;
+        'taking: for place in 0..PLACES {
+            if asking >> place & 1 == 1 {
+                let waited = self.turns.waited(rt, place);
+                let turned = self.take_turn(rt, place + 1, clock, waited);
+                if self.turns.answer(rt, place, turned) {
+                    sleeping |= 1 << place;
+                }
+            }
+        }
+        sleeping
     }
 
     /// Drives the checks of so many servers, each in a hold of its own.
@@ -112,15 +167,16 @@ impl<N: Net, P: Picker, L: Listener, D: Dice, C: Clock, J: Opening> Client<N, P,
 
     fn next_of<R: Wait>(&self, rt: &R, lane: u32) -> Option<u32> {
         let mut desk = self.desk.lock(rt);
-        let next = desk.next_of(lane);
-        MutexGuard::unlock(desk);
-        next
+        desk.next_of(lane)
     }
 
-    fn turn<R: Wait>(&self, rt: &R, lane: u32, clock: &C) -> Turned {
+    fn take_turn<R: Wait>(&self, rt: &R, lane: u32, clock: &C, waited: Waits) -> Turned {
         let mut desk = self.desk.lock(rt);
         let moment = clock.now();
+        let place = desk.steps().len();
         let sight = desk.turn(self.alloc, lane, moment);
+        let told = told_behind(desk.steps(), place);
+        let waits = tell_step(clock, lane, sight, told, waited);
         let due = match sight {
             Some(Sight::Wait { .. }) => desk.count_due(moment),
             _ => 0,
@@ -130,20 +186,35 @@ impl<N: Net, P: Picker, L: Listener, D: Dice, C: Clock, J: Opening> Client<N, P,
             _ => None,
         };
         MutexGuard::unlock(desk);
-        Turned { sight, due, next }
+        Turned {
+            sight,
+            waits,
+            due,
+            next,
+        }
     }
 
     fn count_due<R: Wait>(&self, rt: &R, clock: &C) -> u32 {
         let desk = self.desk.lock(rt);
-        let count = desk.count_due(clock.now());
-        MutexGuard::unlock(desk);
-        count
+        desk.count_due(clock.now())
     }
 
     fn check<R: Wait>(&self, rt: &R, host: u32, clock: &C) {
         let mut desk = self.desk.lock(rt);
         let moment = clock.now();
+        let place = desk.steps().len();
         desk.check(self.alloc, host, moment);
+        tell_check(clock, told_behind(desk.steps(), place));
         MutexGuard::unlock(desk);
+        clock.note_free();
+    }
+}
+
+/// What stands behind that place of a trail.
+fn told_behind(steps: &[Step], place: usize) -> &[Step] {
+    if place <= steps.len() {
+        &steps[place..]
+    } else {
+        &[]
     }
 }

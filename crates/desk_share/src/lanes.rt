@@ -5,9 +5,10 @@ ghost use Rattle.desk_share.specs.Shared.{Begins, opened_by};
 use crate::Opening;
 use crate::client::Client;
 use crate::driven::DrivenDesk;
+use crate::lane_clock::LaneClock;
 use desk_hooks::{Ended, HookedDesk};
 use drv_events::Listener;
-use net_link::{Clock, Dice, Gate, Net};
+use net_link::{Dice, Gate, Net};
 use server_pick::Picker;
 use std::alloc::Global;
 use std::marker::Brand;
@@ -23,7 +24,7 @@ pub fn share<
     P: Picker,
     L: Listener,
     D: Dice + Send,
-    C: Clock + Send + Sync,
+    C: LaneClock + Send + Sync,
     G: Gate + Sync,
 >(
     rt: &R,
@@ -47,7 +48,7 @@ fn share_opened<
     P: Picker,
     L: Listener,
     D: Dice + Send,
-    C: Clock + Send + Sync,
+    C: LaneClock + Send + Sync,
     G: Gate + Sync,
     J: Opening + Send + Sync,
 >(
@@ -76,7 +77,7 @@ pub fn run_lanes<
     P: Picker,
     L: Listener,
     D: Dice + Send,
-    C: Clock + Send + Sync,
+    C: LaneClock + Send + Sync,
     J: Opening + Send + Sync,
     G: Gate + Sync,
 >(
@@ -100,7 +101,7 @@ fn run_threads<
     P: Picker,
     L: Listener,
     D: Dice + Send,
-    C: Clock + Send + Sync,
+    C: LaneClock + Send + Sync,
     J: Opening + Send + Sync,
     G: Gate + Sync,
 >(rt: &R, client: &Client<N, P, L, D, C, J>, lanes: u32, clock: &C, gate: &G) {

@@ -11,23 +11,29 @@
 //! ```
 //!
 //! Nobody rests while they hold the lock of a [`Client`]: each hold is one call of a [`DrivenDesk`], which makes at most one call of the
-//! desk that appends. A lane whose command waits gives the lock up, drives the checks that are due or run, each in a hold of its own, and
-//! rests outside the lock. What is known of a value that a lock guards is what its type says; so the type of [`DrivenDesk`] keeps what is
-//! to hold at the end: that it is the desk of the client that was put there ([`Opening`]), that each lane's commands ran one after another,
-//! that moments and words are those of the clock's and the dice's types, and that each listener heard exactly what the trail tells. Read
-//! `specs/Shared.antt`, then `Holds` and `Closed`.
+//! desk that appends. One thread takes the turns of all lanes that ask, each in a hold. A lane whose command waits gives the lock up,
+//! drives the checks that are due or run, each in a hold of its own, and rests outside the lock. What is known of a value that a lock
+//! guards is what its type says; so the type of [`DrivenDesk`] keeps what is to hold at the end: that it is the desk of the client that was
+//! put there ([`Opening`]), that each lane's commands ran one after another, that moments and words are those of the clock's and the dice's
+//! types, and that each listener heard exactly what the trail tells. Read `specs/Shared.antt`, then `Holds` and `Closed`.
 #![tactic(auto)]
 
 mod client;
 mod driven;
+mod lane_clock;
+mod lane_turn;
 mod lanes;
 pub mod laws;
 mod opening;
 mod patience;
+mod telling;
+mod turned;
+mod turns;
 
 pub use client::Client;
 pub use desk_hooks::Ended;
 pub use driven::DrivenDesk;
+pub use lane_clock::{LaneClock, Waits};
 pub use lanes::{run_lanes, share};
 pub use opening::Opening;
 pub use patience::Patience;

@@ -2,6 +2,7 @@
 use crate::real_clock::RealClock;
 use crate::setting::{Setting, setting_of};
 use bson_doc::Memory;
+use desk_share::LaneClock;
 use drv_events::Hooks;
 use effect_count::RequestIndex;
 use member_hall::{Act, Hall, Planned};
@@ -118,7 +119,7 @@ struct Left {
 }
 
 /// Runs a script under a gate.
-fn under<R: Threads + Wait + Sync, C: net_link::Clock + Send + Sync, G: Gate + Sync>(
+fn under<R: Threads + Wait + Sync, C: LaneClock + Send + Sync, G: Gate + Sync>(
     rt: &R,
     alloc: Global,
     clock: &C,

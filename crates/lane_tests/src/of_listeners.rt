@@ -5,6 +5,7 @@ use crate::real_clock::RealClock;
 use crate::setting::{Setting, setting_of};
 use crate::shared_count::SharedCount;
 use bson_doc::Memory;
+use desk_share::LaneClock;
 use drv_events::{Hooks, Listener};
 use member_hall::Hall;
 use net_link::{Gate, OpenGate, Phase, VecSink};
@@ -115,7 +116,7 @@ struct Left {
 }
 
 /// Runs the two finds under a gate. No listener heard anything yet.
-fn under<R: Threads + Wait + Sync, C: net_link::Clock + Send + Sync, G: Gate + Sync>(
+fn under<R: Threads + Wait + Sync, C: LaneClock + Send + Sync, G: Gate + Sync>(
     rt: &R,
     alloc: Global,
     clock: &C,

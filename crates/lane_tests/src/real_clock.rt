@@ -1,3 +1,4 @@
+use desk_share::LaneClock;
 use net_link::Clock;
 use std::time;
 use std::time::Duration;
@@ -29,3 +30,5 @@ impl<'a, R: time::Clock> Clock for RealClock<'a, R> {
         self.rt.sleep(Duration::from_micros(micros));
     }
 }
+
+impl<'a, R: time::Clock> LaneClock for RealClock<'a, R> {}

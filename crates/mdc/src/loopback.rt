@@ -6,11 +6,12 @@ use crate::machine_dice::MachineDice;
 use crate::socket_net::SocketNet;
 use crate::socket_watch::SocketWatch;
 use bson_doc::{Bytes, Rows, Text};
+use desk_share::LaneClock;
 use drv_events::Hooks;
 use member_core::Member;
 use member_serve::{Settings, member_of};
 use msg_wire::{Message, MsgFault, read};
-use net_link::{Clock, Dice, Net, OpenGate, SliceSource, VecSink};
+use net_link::{Dice, Net, OpenGate, SliceSource, VecSink};
 use server_pick::KeepAll;
 use shell_top::{Status, run};
 use std::alloc::{AllocError, Global};
@@ -104,7 +105,7 @@ struct Outside<'a, N, C, D> {
 fn is_run<
     R: Threads + Wait + Sync,
     N: Net + Send + Drop,
-    C: Clock + Send + Sync,
+    C: LaneClock + Send + Sync,
     D: Dice + Send + Drop,
 >(
     rt: &R,

@@ -1,5 +1,7 @@
 use crate::socket_watch::SocketWatch;
+use desk_share::{LaneClock, Waits};
 use net_link::Clock;
+use std::net::Net as Sockets;
 use std::sync::Wait;
 use std::time;
 use std::time::Duration;
@@ -32,5 +34,32 @@ impl<'a, R: time::Clock + Wait> Clock for MachineClock<'a, R> {
     /// Gives control back as soon as one of the run's sockets is ready, at the latest after the time given.
     fn rest(&self, micros: u64) {
         self.watch.rest(self.rt, Duration::from_micros(micros));
+    }
+}
+
+impl<'a, R: time::Clock + Sockets + Wait> LaneClock for MachineClock<'a, R> {
+    fn note_step(&self, lane: u32, waits: Option<Waits>) {
+        self.watch.note_step(self.rt, lane, waits);
+    }
+
+    fn note_line(&self, host: u32) {
+        self.watch.note_line(self.rt, host);
+    }
+
+    fn note_servers(&self) {
+        self.watch.note_servers(self.rt);
+    }
+
+    fn note_free(&self) {
+        self.watch.wake_lanes();
+    }
+
+    fn note_end(&self) {
+        self.watch.wake();
+    }
+
+    fn rest_of(&self, lane: u32, micros: u64) {
+        self.watch
+            .rest_of(self.rt, lane, Duration::from_micros(micros));
     }
 }

@@ -14,10 +14,12 @@
 //! where memory ran out, or where the system gave no seed. For 2 to 6 it prints one line on standard error.
 #![tactic(auto)]
 
+mod connection;
 #[cfg(test)]
 mod loopback;
 mod machine_clock;
 mod machine_dice;
+mod poller;
 mod socket_net;
 mod socket_watch;
 mod standard_input;

@@ -1,23 +1,21 @@
 ghost use Rattle.std.specs.Prelude.{◌≡◌, ◌<◌, ◌≤◌, []};
 ghost use Rattle.net_link.specs.Causes.{Rose, count_of, count_of-below};
 
+use crate::connection::{Connection, is_not_yet};
 use crate::socket_watch::SocketWatch;
 use mio::net::TcpStream;
 use net_link::{Came, Dialed, Net, Wrote};
 use std::alloc::Global;
 use std::io;
-use std::io::{BufReader, ErrorKind, Read, Write};
+use std::io::ErrorKind;
 use std::net::{Net as Sockets, SocketAddr, ToSocketAddrs};
-
-/// The most bytes that a socket is read ahead of what a caller asks for: a message's header and a short message behind it are
-/// one call of the system. Of a longer one what is behind these bytes is read to where the caller wants it.
-const AHEAD: usize = 512;
+use std::sync::Arc;
 
 /// A net of non-blocking sockets, which send at once what they are given (TCP_NODELAY). It tells nothing.
 ///
 /// A dial begins a connection, and until that stands `write` and `read` answer `NotYet`. An address in digits is not
-/// looked up; a host's name is, and the lookup may wait. Rests of the clock that has the same watch end when one of its
-/// sockets is ready.
+/// looked up; a host's name is, and the lookup may wait. Rests of the clock that has the same watch end when a socket is
+/// ready.
 #[derive(Drop)]
 pub struct SocketNet<'a, H: Sockets> {
     alloc: Global,
@@ -28,11 +26,11 @@ pub struct SocketNet<'a, H: Sockets> {
     faults: u64,
 }
 
-/// A stream's number and its socket.
+/// A stream's number and its connection.
 #[derive(Drop)]
 struct Line {
     stream: u64,
-    socket: BufReader<TcpStream>,
+    connection: Arc<Connection>,
 }
 
 impl<'a, H: Sockets> SocketNet<'a, H> {
@@ -57,7 +55,7 @@ impl<'a, H: Sockets> SocketNet<'a, H> {
     }
 
     /// Begins a connection to the first address that the text names.
-    fn connect(&self, address: &str) -> io::Result<BufReader<TcpStream>> {
+    fn connect(&self, address: &str) -> io::Result<Arc<Connection>> {
         let found = match address.parse::<SocketAddr>() {
             Ok(digits) => Some(digits),
             Err(_) => address.to_socket_addrs(self.handle)?.next(),
@@ -69,25 +67,18 @@ impl<'a, H: Sockets> SocketNet<'a, H> {
         // A socket that gathers small pieces all the same is slower, no more.
         let _ = socket.set_nodelay(true);
         self.watch.watch(&mut socket);
-        BufReader::with_capacity(self.alloc, AHEAD, socket)
+        let connection = Connection::new(self.alloc, socket)?;
+        Ok(Arc::new(self.alloc, connection)?)
     }
 }
 
-fn find(lines: &mut Vec<Line>, stream: u64) -> Option<&mut BufReader<TcpStream>> {
-    for line in lines.iter_mut() {
+fn find(lines: &[Line], stream: u64) -> io::Result<&Arc<Connection>> {
+    for line in lines {
         if line.stream == stream {
-            return Some(&mut line.socket);
+            return Ok(&line.connection);
         }
     }
-    None
-}
-
-/// The connection does not stand yet, or it has nothing to give or no room to take.
-fn is_not_yet(error: &io::Error) -> bool {
-    matches!(
-        error.kind(),
-        ErrorKind::WouldBlock | ErrorKind::Interrupted | ErrorKind::NotConnected
-    )
+    Err(io::Error::from(ErrorKind::NotFound))
 }
 
 /// Memory was wanting, here or in the system.
@@ -117,8 +108,8 @@ impl<'a, H: Sockets> Net for SocketNet<'a, H> {
     ghost below = { λ _ _ given. given };
 
     fn dial(&mut self, address: &str) -> Dialed {
-        let socket = match self.connect(address) {
-            Ok(socket) => socket,
+        let connection = match self.connect(address) {
+            Ok(connection) => connection,
             Err(error) if is_memory(&error) => return Dialed::Memory,
             Err(_) => {
                 self.fail();
@@ -130,7 +121,8 @@ impl<'a, H: Sockets> Net for SocketNet<'a, H> {
             self.fail();
             return Dialed::Failed;
         };
-        let Ok(()) = self.lines.push(Line { stream, socket }) else {
+        self.watch.note(&connection);
+        let Ok(()) = self.lines.push(Line { stream, connection }) else {
             return Dialed::Memory;
         };
         self.next = next;
@@ -138,9 +130,12 @@ impl<'a, H: Sockets> Net for SocketNet<'a, H> {
     }
 
     fn write(&mut self, stream: u64, bytes: &[u8]) -> Wrote {
-        let result = match find(&mut self.lines, stream) {
-            Some(socket) => socket.get_mut().write(bytes),
-            None => Err(io::Error::from(ErrorKind::NotFound)),
+        let result = match find(self.lines.as_slice(), stream) {
+            Ok(connection) => {
+                self.watch.note(connection);
+                connection.write(bytes)
+            }
+            Err(error) => Err(error),
         };
         match result {
             Ok(0) => Wrote::NotYet,
@@ -155,9 +150,15 @@ impl<'a, H: Sockets> Net for SocketNet<'a, H> {
     }
 
     fn read(&mut self, stream: u64, into: &mut [u8]) -> Came {
-        let result = match find(&mut self.lines, stream) {
-            Some(socket) => socket.read(into),
-            None => Err(io::Error::from(ErrorKind::NotFound)),
+        let result = match find(self.lines.as_slice(), stream) {
+            Ok(connection) => {
+                let result = connection.read(into);
+                if result.is_err() {
+                    self.watch.note(connection);
+                }
+                result
+            }
+            Err(error) => Err(error),
         };
         match result {
             Ok(0) => Came::End,
@@ -172,6 +173,9 @@ impl<'a, H: Sockets> Net for SocketNet<'a, H> {
     }
 
     fn close(&mut self, stream: u64) {
+        if let Ok(connection) = find(self.lines.as_slice(), stream) {
+            connection.flush();
+        }
         self.lines.retain(|line| line.stream != stream);
     }
 }

@@ -1,30 +1,54 @@
+use crate::connection::Connection;
+use crate::poller::{Poller, put};
+use desk_share::Waits;
 use mio::net::TcpStream;
-use mio::{Events, Interest, Poll, Registry, Token};
+use mio::{Registry, Waker};
 use std::alloc::Global;
-use std::io;
+use std::mem;
 use std::net::Net as Sockets;
-use std::sync::{Condvar, Mutex, Wait};
+use std::sync::atomic::{AtomicU64, Ordering};
+use std::sync::{Arc, Condvar, Mutex, Wait};
 use std::time::{Clock, Duration};
 
-/// The most events that one poll takes from the system. What is left over ends the next poll at once.
-const EVENTS: usize = 64;
+/// The greatest number of a lane.
+const LANES: usize = 64;
 
-/// The token of every socket: a rest names no stream, so nobody looks at what a poll reports.
-const ANY: Token = Token(0);
-
-/// Ends a rest as soon as a socket of the run is ready to be read or written.
+/// Ends rests early: the net and the clock of a run share it.
 ///
-/// Several threads may rest at a time, as leader and followers: the first of them polls, the others wait for it, and
-/// when its poll ends all come back, since any of them may be concerned. Where the system gives nothing to poll with,
-/// a rest lasts its time.
-///
-/// A socket is reported when it becomes ready, not while it is: whoever rests has seen `NotYet` on its stream, and
-/// bounds its rest.
+/// A lane whose command waits for what comes on a connection rests on that connection alone. A lane whose command waits for
+/// a server or for a connection rests until a step of another command or of a check changed something. Whoever else rests
+/// does so until any socket of the run is ready on which no lane rested yet: several may, as leader and followers, of whom
+/// the first one polls, the others wait for it, and all come back when its poll ends. Where the system gives nothing to
+/// poll with, a rest lasts its time.
 #[derive(Drop)]
 pub struct SocketWatch {
+    alloc: Global,
     registry: Option<Registry>,
+    waker: Option<Waker>,
     polling: Mutex<Polling>,
     ended: Condvar,
+    /// What the net's last call was about, where it has not all that its caller wants.
+    last: Mutex<Option<Arc<Connection>>>,
+    /// By lane.
+    lanes: Vec<Lane>,
+    /// The lanes whose commands stand in lines of pools, in the order in which they came.
+    lines: Mutex<Vec<Standing>>,
+    /// The lanes whose rests are to end, a bit for each, the first one's the lowest.
+    to_wake: AtomicU64,
+}
+
+/// A lane, where it rests.
+#[derive(Drop)]
+struct Lane {
+    awaited: Mutex<Awaited>,
+    woken: Condvar,
+}
+
+/// A lane whose command stands in the line of a host's pool.
+#[derive(Clone, Copy, Debug, PartialEq, Eq, Drop)]
+struct Standing {
+    host: u32,
+    lane: u32,
 }
 
 /// What those that rest share.
@@ -36,30 +60,165 @@ struct Polling {
     round: u64,
 }
 
-/// The sockets' poll, and the buffer that it writes.
+/// What a lane's command waits for.
 #[derive(Drop)]
-struct Poller {
-    poll: Poll,
-    events: Events,
+enum Awaited {
+    /// What comes on a connection.
+    Bytes(Arc<Connection>),
+    /// To be first in the line of a pool.
+    Line,
+    /// Another topology.
+    Servers,
+    /// Its time alone.
+    Time,
+    /// Nothing any more: its rest is to end.
+    Nothing,
 }
 
 impl SocketWatch {
     pub fn new<H: Sockets>(alloc: Global, handle: &H) -> SocketWatch {
-        let (registry, poller) = match open(alloc, handle) {
-            Ok((registry, poller)) => (Some(registry), Some(poller)),
-            Err(_) => (None, None),
+        let poller = Poller::new(alloc, handle).ok();
+        let (registry, waker) = match &poller {
+            Some(poller) => (poller.registry().ok(), poller.waker().ok()),
+            None => (None, None),
         };
         SocketWatch {
+            alloc,
             registry,
+            waker,
             polling: Mutex::new(Polling { poller, round: 0 }),
             ended: Condvar::new(),
+            last: Mutex::new(None),
+            lanes: lanes_of(alloc),
+            lines: Mutex::new(Vec::new(alloc)),
+            to_wake: AtomicU64::new(0),
         }
     }
 
     /// Has rests end when this socket is ready. A socket that cannot be watched ends none: they last their time.
     pub fn watch(&self, socket: &mut TcpStream) {
         if let Some(registry) = &self.registry {
-            let _ = registry.register(socket, ANY, Interest::READABLE | Interest::WRITABLE);
+            let _ = put(registry, socket);
+        }
+    }
+
+    /// A poller that reports this socket alone, in place of this watch; None where the system gives none.
+    pub fn hand_over<H: Sockets>(&self, handle: &H, socket: &mut TcpStream) -> Option<Poller> {
+        let poller = Poller::new(self.alloc, handle).ok()?;
+        poller.put(socket).ok()?;
+        if let Some(registry) = &self.registry {
+            let _ = registry.deregister(socket);
+        }
+        Some(poller)
+    }
+
+    /// Notes what the net's last call was about, which has not all that its caller wants.
+    pub fn note(&self, connection: &Arc<Connection>) {
+        if let Some(mut last) = self.last.try_lock() {
+            *last = Arc::try_clone(connection).ok();
+        }
+    }
+
+    /// Notes what a lane's command waits for: for bytes on what the net noted last. Of lane 0 forgets what the net noted.
+    pub fn note_step<R: Wait>(&self, rt: &R, lane: u32, waits: Option<Waits>) {
+        let last = self.take_last(rt);
+        self.stand(rt, lane, waits);
+        let awaited = match (waits, last) {
+            (Some(Waits::Stream), Some(connection)) => Awaited::Bytes(connection),
+            (Some(Waits::Line { .. }), _) => Awaited::Line,
+            (Some(Waits::Server), _) => Awaited::Servers,
+            _ => Awaited::Time,
+        };
+        if let Some(lane) = self.lanes.get(lane as usize) {
+            let mut place = lane.awaited.lock(rt);
+            *place = awaited;
+        }
+    }
+
+    /// Has a lane stand in the line that its command waits in, behind those that came before, and in no other.
+    fn stand<R: Wait>(&self, rt: &R, lane: u32, waits: Option<Waits>) {
+        let mut lines = self.lines.lock(rt);
+        let place = lines.iter().position(|standing| standing.lane == lane);
+        match (place, waits) {
+            (Some(place), Some(Waits::Line { host })) => {
+                lines[place].host = host;
+            }
+            (Some(place), _) => {
+                lines.remove(place);
+            }
+            (None, Some(Waits::Line { host })) => {
+                // One for whom there is no memory rests its time.
+                let _ = lines.push(Standing { host, lane });
+            }
+            (None, _) => {}
+        }
+    }
+
+    /// The rest of the lane that stands first in the line of the host's pool is to end.
+    pub fn note_line<R: Wait>(&self, rt: &R, host: u32) {
+        let lines = self.lines.lock(rt);
+        let first = lines.iter().find(|standing| standing.host == host);
+        let lane = first.map(|standing| standing.lane);
+        drop(lines);
+        if let Some(lane) = lane {
+            self.end_rest(rt, lane, false);
+        }
+    }
+
+    /// The rests of all lanes whose commands wait for a server are to end.
+    pub fn note_servers<R: Wait>(&self, rt: &R) {
+        for lane in 1..=LANES as u32 {
+            self.end_rest(rt, lane, true);
+        }
+    }
+
+    fn end_rest<R: Wait>(&self, rt: &R, lane: u32, is_for_server: bool) {
+        let Some(place) = lane.checked_sub(1) else {
+            return;
+        };
+        let Some(lane) = self.lanes.get(lane as usize) else {
+            return;
+        };
+        if place < 64 && lane.end_rest(rt, is_for_server) {
+            self.to_wake.fetch_or(1 << place, Ordering::SeqCst);
+        }
+    }
+
+    /// Wakes the lanes whose rests are to end.
+    pub fn wake_lanes(&self) {
+        if self.to_wake.load(Ordering::SeqCst) == 0 {
+            return;
+        }
+        let lanes = self.to_wake.swap(0, Ordering::SeqCst);
+        for place in 0..64_u32 {
+            if lanes >> place & 1 == 1 {
+                if let Some(lane) = self.lanes.get(place as usize + 1) {
+                    lane.woken.notify_one();
+                }
+            }
+        }
+    }
+
+    /// Ends the rest of whoever polls the watched sockets.
+    pub fn wake(&self) {
+        if let Some(waker) = &self.waker {
+            let _ = waker.wake();
+        }
+    }
+
+    /// Waits for what the lane's command waits for, at most for so long.
+    pub fn rest_of<R: Clock + Sockets + Wait>(&self, rt: &R, lane: u32, most: Duration) {
+        let Some(lane) = self.lanes.get(lane as usize) else {
+            rt.sleep(most);
+            return;
+        };
+        match lane.take_connection(rt) {
+            Some(connection) => {
+                if !connection.rest(rt, self, most) {
+                    self.rest(rt, most);
+                }
+            }
+            None => lane.rest(rt, most),
         }
     }
 
@@ -90,22 +249,66 @@ impl SocketWatch {
         drop(polling);
         self.ended.notify_all();
     }
-}
 
-impl Poller {
-    /// Polls at most for so long; where the system cannot poll, lets the time pass.
-    fn rest<R: Clock>(&mut self, rt: &R, most: Duration) {
-        let polled = self.poll.poll(&mut self.events, Some(most));
-        if polled.is_err() {
-            rt.sleep(most);
-        }
+    fn take_last<R: Wait>(&self, rt: &R) -> Option<Arc<Connection>> {
+        let mut last = self.last.lock(rt);
+        last.take()
     }
 }
 
-/// A poll, with the registry of its sockets.
-fn open<H: Sockets>(alloc: Global, handle: &H) -> io::Result<(Registry, Poller)> {
-    let poll = Poll::new(handle)?;
-    let events = Events::with_capacity(alloc, EVENTS)?;
-    let registry = poll.registry().try_clone()?;
-    Ok((registry, Poller { poll, events }))
+impl Lane {
+    fn new() -> Lane {
+        Lane {
+            awaited: Mutex::new(Awaited::Time),
+            woken: Condvar::new(),
+        }
+    }
+
+    /// Its rest is to end, where it waits for a server, or for its turn in a line; whether it does.
+    fn end_rest<R: Wait>(&self, rt: &R, is_for_server: bool) -> bool {
+        let mut awaited = self.awaited.lock(rt);
+        let is_awaited = match &*awaited {
+            Awaited::Servers => is_for_server,
+            Awaited::Line => !is_for_server,
+            _ => false,
+        };
+        if is_awaited {
+            *awaited = Awaited::Nothing;
+        }
+        is_awaited
+    }
+
+    /// The connection on which it waits for bytes.
+    fn take_connection<R: Wait>(&self, rt: &R) -> Option<Arc<Connection>> {
+        let mut awaited = self.awaited.lock(rt);
+        if !matches!(*awaited, Awaited::Bytes(_)) {
+            return None;
+        }
+        match mem::replace(&mut *awaited, Awaited::Time) {
+            Awaited::Bytes(connection) => Some(connection),
+            _ => None,
+        }
+    }
+
+    /// Rests until it is woken, at most for so long.
+    fn rest<R: Clock + Wait>(&self, rt: &R, most: Duration) {
+        let awaited = self.awaited.lock(rt);
+        let _ = self.woken.wait_timeout_while(
+            rt,
+            awaited,
+            most,
+            |awaited| !matches!(awaited, Awaited::Nothing),
+        );
+    }
+}
+
+/// A place for each lane, and one for checks; none where memory is wanting, and then rests last their time.
+fn lanes_of(alloc: Global) -> Vec<Lane> {
+    let mut all = Vec::new(alloc);
+    for _ in 0..=LANES {
+        let Ok(()) = all.push(Lane::new()) else {
+            return Vec::new(alloc);
+        };
+    }
+    all
 }

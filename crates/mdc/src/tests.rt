@@ -1,6 +1,10 @@
+use crate::machine_clock::MachineClock;
+use crate::socket_net::SocketNet;
 use crate::socket_watch::SocketWatch;
+use desk_share::{LaneClock, Waits};
 use mio::net::TcpStream;
-use std::io::Write;
+use net_link::{Came, Dialed, Net, Wrote};
+use std::io::{Read, Write};
 use std::net::TcpListener;
 use std::sync::atomic::{AtomicU64, Ordering};
 use std::test::Fail;
@@ -39,6 +43,57 @@ fn events_end_the_rests_of_all(rt: HostRuntime) -> Result<(), Fail> {
         }
     };
     thread::join(&rt, rests, events);
+    assert!(rt; began.elapsed(&rt)? < Duration::from_secs(30));
+    Ok(())
+}
+
+/// A lane's rest sends what was kept for its connection, and ends with the answer.
+#[test]
+fn an_answer_ends_the_rest_of_its_lane(rt: HostRuntime) -> Result<(), Fail> {
+    let most = 40_000_000;
+    let began = Instant::now(&rt)?;
+    let listener = TcpListener::bind(&rt, "127.0.0.1:0")?;
+    let port = listener.local_addr()?.port();
+    let watch = SocketWatch::new(rt.alloc(), &rt);
+    let clock = MachineClock::new(&rt, &watch);
+    let mut net = SocketNet::new(rt.alloc(), &rt, &watch);
+    let address = format!(in rt.alloc(); "127.0.0.1:{port}")?;
+    let Dialed::Stream(stream) = net.dial(address.as_str()) else {
+        return Err(Fail::from("no stream"));
+    };
+    let (peer, _) = listener.accept()?;
+    clock.note_step(1, Some(Waits::Stream));
+    // The event that the connection stands.
+    clock.rest_of(1, most);
+    assert_eq!(rt; net.write(stream, b"request"), Wrote::Took(7));
+    clock.note_step(1, Some(Waits::Stream));
+    let rest = || clock.rest_of(1, most);
+    let answer = || {
+        let mut request = [0; 7];
+        let _ = (&peer).read_exact(&mut request);
+        let _ = (&peer).write(b"answer");
+    };
+    thread::join(&rt, rest, answer);
+    assert!(rt; began.elapsed(&rt)? < Duration::from_secs(30));
+    assert_eq!(rt; net.read(stream, &mut [0; 16]), Came::Got(6));
+    Ok(())
+}
+
+/// The rest of the lane that stands first in a line ends where the line moves.
+#[test]
+fn a_line_that_moves_ends_the_rest_of_its_first_lane(rt: HostRuntime) -> Result<(), Fail> {
+    let began = Instant::now(&rt)?;
+    let watch = SocketWatch::new(rt.alloc(), &rt);
+    let clock = MachineClock::new(&rt, &watch);
+    clock.note_step(64, Some(Waits::Line { host: 2 }));
+    let rest = || clock.rest_of(64, 40_000_000);
+    let change = || {
+        // Until then it rests, if the machine is not too busy.
+        thread::sleep(&rt, Duration::from_millis(100));
+        clock.note_line(2);
+        clock.note_free();
+    };
+    thread::join(&rt, rest, change);
     assert!(rt; began.elapsed(&rt)? < Duration::from_secs(30));
     Ok(())
 }

@@ -26,11 +26,11 @@ use conn_uri::Settings;
 use desk_core::Finished;
 use desk_hooks::{Ended as Left, HookedDesk};
 use desk_share::laws::a_new_desk_begins;
-use desk_share::{DrivenDesk, Opening, run_lanes};
+use desk_share::{DrivenDesk, LaneClock, Opening, run_lanes};
 use desk_trail::Trail;
 use drv_events::laws::all_are_counted;
 use drv_events::{Hooks, Listener};
-use net_link::{Clock, Dice, Gate, Net, Sink, Source, write_all};
+use net_link::{Dice, Gate, Net, Sink, Source, write_all};
 use run_words::{Task, WordStop, read_words};
 use script_text::{ScriptRead, read_script};
 use server_pick::Picker;
@@ -56,7 +56,7 @@ pub fn run<
     S: Source,
     K: Sink,
     N: Net + Send,
-    C: Clock + Send + Sync,
+    C: LaneClock + Send + Sync,
     D: Dice + Send,
     G: Gate + Sync,
 >(
@@ -142,7 +142,7 @@ fn run_by<
     P: Picker,
     L: Listener,
     D: Dice + Send,
-    C: Clock + Send + Sync,
+    C: LaneClock + Send + Sync,
     G: Gate + Sync,
 >(
     context: Context<'_, R, C, G>,
@@ -213,7 +213,7 @@ fn run_script<
     P: Picker,
     L: Listener,
     D: Dice + Send,
-    C: Clock + Send + Sync,
+    C: LaneClock + Send + Sync,
     G: Gate + Sync,
 >(
     context: Context<'_, R, C, G>,
@@ -251,7 +251,7 @@ fn run_commands<
     P: Picker,
     L: Listener,
     D: Dice + Send,
-    C: Clock + Send + Sync,
+    C: LaneClock + Send + Sync,
     G: Gate + Sync,
 >(
     context: Context<'_, R, C, G>,
@@ -330,7 +330,7 @@ fn run_desk<
     P: Picker,
     L: Listener,
     D: Dice + Send,
-    C: Clock + Send + Sync,
+    C: LaneClock + Send + Sync,
     G: Gate + Sync,
     J: Opening + Send + Sync,
 >(
@@ -390,7 +390,7 @@ fn in_lanes<
     P: Picker,
     L: Listener,
     D: Dice + Send,
-    C: Clock + Send + Sync,
+    C: LaneClock + Send + Sync,
     G: Gate + Sync,
     J: Opening + Send + Sync,
 >(

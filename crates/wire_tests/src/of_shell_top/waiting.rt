@@ -5,6 +5,7 @@ ghost use Rattle.net_link.specs.Causes.{count_of-below};
 
 use super::{CHECK, CONNECTION, one_host, source};
 use bson_doc::Rows;
+use desk_share::LaneClock;
 use drv_events::Hooks;
 use net_link::{Came, Clock, Dialed, ListDice, Net, OpenGate, TickClock, VecSink, Wrote};
 use server_pick::KeepAll;
@@ -106,6 +107,8 @@ impl Clock for StillClock {
     fn rest(&self, _micros: u64) {}
 }
 
+impl LaneClock for StillClock {}
+
 /// What a run over a slow net left.
 #[derive(Drop)]
 struct Left {
@@ -118,7 +121,7 @@ struct Left {
 }
 
 /// Runs the script of one insert over a slow net.
-fn over_slow<R: Threads + Wait + Sync, C: Clock + Send + Sync>(
+fn over_slow<R: Threads + Wait + Sync, C: LaneClock + Send + Sync>(
     rt: &R,
     alloc: Global,
     clock: &C,

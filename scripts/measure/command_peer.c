@@ -1,32 +1,51 @@
 /* A loopback server for the measurement of commands: answers each hello as a standalone server does, each insert by
  * {n: 1, ok: 1.0}, each find by a cursor that ends with its first batch, {_id: 7}, and any other command by {ok: 1.0}, and
- * keeps nothing. One thread, with epoll(7). It ends when its standard input does.
+ * keeps nothing. So many threads, each with its connections by epoll(7). For each byte of its standard input it prints the
+ * microseconds from the arrival of the first insert or find to the last one's answer, of those since it printed last; it ends
+ * when its standard input does.
  *
- * usage: command_peer PORT_FILE */
+ * usage: command_peer PORT_FILE THREADS */
 #define _GNU_SOURCE
 #include <arpa/inet.h>
 #include <netinet/in.h>
 #include <netinet/tcp.h>
+#include <pthread.h>
 #include <stdint.h>
 #include <stdio.h>
 #include <stdlib.h>
 #include <string.h>
 #include <sys/epoll.h>
 #include <sys/socket.h>
+#include <time.h>
 #include <unistd.h>
 
 #define ROOM 65536
+#define THREADS 16
 #define OP_REPLY 1
 #define OP_QUERY 2004
 #define OP_MSG 2013
 
+/* A thread's connections, and when its first command came and its last one was answered, in nanoseconds; 0: none yet. */
+struct worker {
+  int set;
+  uint64_t first, last;
+};
+
 struct connection {
+  struct worker *worker;
   int fd;
   size_t held;
   unsigned char bytes[ROOM];
 };
 
 static unsigned char hello[512], inserted[64], found[128], accepted[64];
+static struct worker workers[THREADS];
+
+static uint64_t now(void) {
+  struct timespec at;
+  clock_gettime(CLOCK_MONOTONIC, &at);
+  return at.tv_sec * 1000000000ull + at.tv_nsec;
+}
 
 static uint32_t number(const unsigned char *at) {
   return at[0] | at[1] << 8 | at[2] << 16 | (uint32_t) at[3] << 24;
@@ -102,8 +121,9 @@ static const unsigned char *answer_to(const unsigned char *document) {
   return strcasecmp(name, "ismaster") && strcmp(name, "hello") ? accepted : hello;
 }
 
-/* Writes the reply to one whole message, and says how long it is; 0 where the message is none that is answered. */
-static size_t reply_to(const unsigned char *message, size_t size, unsigned char *out) {
+/* Writes the reply to one whole message, and says how long it is, and whether it is an insert or a find; 0 where the message is
+ * none that is answered. */
+static size_t reply_to(const unsigned char *message, size_t size, unsigned char *out, int *counts) {
   uint32_t opcode = number(message + 12);
   const unsigned char *body;
   unsigned char *at = out + 16;
@@ -121,6 +141,7 @@ static size_t reply_to(const unsigned char *message, size_t size, unsigned char 
   }
   if (body + 5 >= message + size || !memchr(body + 5, 0, message + size - body - 5)) return 0;
   const unsigned char *document = answer_to(body);
+  *counts = document == inserted || document == found;
   memcpy(at, document, number(document));
   at += number(document);
   put(put(put(put(out, at - out), 1), number(message + 4)), opcode == OP_QUERY ? OP_REPLY : OP_MSG);
@@ -130,6 +151,7 @@ static size_t reply_to(const unsigned char *message, size_t size, unsigned char 
 /* Reads what has come and answers each whole message. Says whether the connection goes on. */
 static int serve(struct connection *of) {
   unsigned char out[1024];
+  int counts = 0;
   ssize_t got = recv(of->fd, of->bytes + of->held, ROOM - of->held, 0);
   size_t from = 0;
   if (got <= 0) return 0;
@@ -138,8 +160,10 @@ static int serve(struct connection *of) {
     size_t size = number(of->bytes + from), length;
     if (size < 26 || size > ROOM) return 0;
     if (of->held - from < size) break;
-    length = reply_to(of->bytes + from, size, out);
+    length = reply_to(of->bytes + from, size, out, &counts);
+    if (counts && !of->worker->first) of->worker->first = now();
     if (length == 0 || send(of->fd, out, length, MSG_NOSIGNAL) != (ssize_t) length) return 0;
+    if (counts) of->worker->last = now();
     from += size;
   }
   memmove(of->bytes, of->bytes + from, of->held - from);
@@ -152,15 +176,50 @@ static void watch(int set, int fd, void *what) {
   if (epoll_ctl(set, EPOLL_CTL_ADD, fd, &event)) exit(1);
 }
 
+/* Serves the connections of a thread. */
+static void *work(void *what) {
+  struct worker *worker = what;
+  for (;;) {
+    struct epoll_event ready[64];
+    int count = epoll_wait(worker->set, ready, 64, -1);
+    for (int i = 0; i < count; i++) {
+      struct connection *of = ready[i].data.ptr;
+      if (!serve(of)) {
+        close(of->fd);
+        free(of);
+      }
+    }
+  }
+  return NULL;
+}
+
+/* Prints how long the commands took since this was printed last. Nobody sends any meanwhile. */
+static void tell(int threads) {
+  uint64_t first = UINT64_MAX, last = 0;
+  for (int i = 0; i < threads; i++) {
+    if (workers[i].first && workers[i].first < first) first = workers[i].first;
+    if (workers[i].last > last) last = workers[i].last;
+    workers[i].first = workers[i].last = 0;
+  }
+  printf("%.1f\n", last > first ? (last - first) / 1000.0 : 0.0);
+  fflush(stdout);
+}
+
 int main(int argc, char **argv) {
   static char input;
   struct sockaddr_in address = {.sin_family = AF_INET, .sin_addr.s_addr = htonl(INADDR_LOOPBACK)};
   socklen_t length = sizeof address;
-  int listener = socket(AF_INET, SOCK_STREAM, 0), set = epoll_create1(0), on = 1;
-  FILE *port = argc == 2 ? fopen(argv[1], "w") : NULL;
+  int listener = socket(AF_INET, SOCK_STREAM, 0), set = epoll_create1(0), on = 1, next = 0;
+  int threads = argc == 3 ? atoi(argv[2]) : 0;
+  FILE *port = threads >= 1 && threads <= THREADS ? fopen(argv[1], "w") : NULL;
   if (!port || bind(listener, (void *) &address, length) || listen(listener, 1024)) return 1;
   if (getsockname(listener, (void *) &address, &length)) return 1;
   make_answers();
+  for (int i = 0; i < threads; i++) {
+    pthread_t thread;
+    workers[i].set = epoll_create1(0);
+    if (pthread_create(&thread, NULL, work, &workers[i])) return 1;
+  }
   watch(set, listener, NULL);
   watch(set, 0, &input);
   fprintf(port, "%d", ntohs(address.sin_port));
@@ -169,19 +228,18 @@ int main(int argc, char **argv) {
     struct epoll_event ready[64];
     int count = epoll_wait(set, ready, 64, -1);
     for (int i = 0; i < count; i++) {
-      struct connection *of = ready[i].data.ptr;
-      if ((void *) of == &input) {
+      if (ready[i].data.ptr == &input) {
         if (read(0, &input, 1) <= 0) return 0;
-      } else if (of == NULL) {
+        tell(threads);
+      } else {
         int fd = accept(listener, NULL, NULL);
-        if (fd < 0 || !(of = malloc(sizeof *of))) continue;
+        struct connection *of = fd < 0 ? NULL : malloc(sizeof *of);
+        if (!of) continue;
         setsockopt(fd, IPPROTO_TCP, TCP_NODELAY, &on, sizeof on);
+        of->worker = &workers[next++ % threads];
         of->fd = fd;
         of->held = 0;
-        watch(set, fd, of);
-      } else if (!serve(of)) {
-        close(of->fd);
-        free(of);
+        watch(of->worker->set, fd, of);
       }
     }
   }

@@ -4,7 +4,7 @@
 //! each hello at once. It prints the nanoseconds of a check among the first tenth and among the last tenth, each in the quickest
 //! of five runs, and the entries of the trail.
 
-ghost use Rattle.std.specs.Prelude.{◌≢◌};
+ghost use Rattle.std.specs.Prelude.{◌≡◌, ◌≢◌, [], IfSome};
 
 use crate::timing::{Ends, tenths};
 use crate::trouble::Trouble;
@@ -51,31 +51,49 @@ fn run(rt: &HostRuntime, tenth: u32) -> Result<(Ends, usize), Trouble>
 
 /// A client of one server that answers ten times that many checks.
 fn desk_of(alloc: Global, tenth: u32) -> Option<Desk<ScriptNet, KeepAll>> {
-    let mut plans = Rows::new(alloc);
-    plans
-        .push(StreamPlan {
-            bytes: replies(alloc, tenth)?,
-            most: u32::MAX,
-            ends: false,
-        })
-        .ok()?;
-    let net = ScriptNet::new(alloc, plans, Rows::new(alloc));
     let settings = parse(alloc, "mongodb://a").ok()?;
+    let net = net_of(alloc, tenth)?;
     Desk::new(alloc, net, settings, Rows::new(alloc), KeepAll, 0).ok()
+}
+
+/// A net whose first stream brings ten times that many replies.
+fn net_of(alloc: Global, tenth: u32) -> Option<ScriptNet>
+    ensures fresh { IfSome result (λ net. net.events ≡ []) }
+{
+    let mut plans = Rows::new(alloc);
+    push_plan(alloc, &mut plans, tenth)?;
+    Some(ScriptNet::new(alloc, plans, Rows::new(alloc)))
+}
+
+/// Appends what comes on such a stream.
+fn push_plan(alloc: Global, plans: &mut Rows<StreamPlan>, tenth: u32) -> Option<()> {
+    let bytes = replies(alloc, tenth)?;
+    let plan = StreamPlan {
+        bytes,
+        most: u32::MAX,
+        ends: false,
+    };
+    plans.push(plan).ok()
 }
 
 /// The replies to ten times that many requests, with ids from 1 on.
 fn replies(alloc: Global, tenth: u32) -> Option<Bytes> {
     let mut bytes = Bytes::new(alloc);
+    append_replies(&mut bytes, tenth)?;
+    Some(bytes)
+}
+
+/// Appends ten times that many replies.
+fn append_replies(bytes: &mut Bytes, tenth: u32) -> Option<()> {
     for _ in 0..10 {
         for _ in 0..tenth {
             let id = u32::try_from(bytes.len() / REPLY.len())
                 .ok()?
                 .checked_add(1)?;
-            append_reply(&mut bytes, id)?;
+            append_reply(bytes, id)?;
         }
     }
-    Some(bytes)
+    Some(())
 }
 
 /// Appends the reply to the request of that id.

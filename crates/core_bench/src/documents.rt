@@ -19,15 +19,31 @@ use std::fs;
 pub fn measure(rt: &HostRuntime, words: &mut Args) -> Result<(), Trouble> {
     let (file, rounds) = parsed(words).ok_or(Trouble::Words)?;
     let bytes = fs::read(rt, file.as_str()).map_err(|_| Trouble::File)?;
-    let (document, length) = decode(rt.alloc(), bytes.as_slice()).map_err(|_| Trouble::Document)?;
+    let length = bytes.len();
+    let decoding = time_decoding(rt, rounds, bytes.as_slice())?;
+    let _ = println!(rt; "decode {decoding} {length}");
+    let encoding = time_encoding(rt, rounds, bytes.as_slice())?;
+    let _ = println!(rt; "encode {encoding} {length}");
+    Ok(())
+}
+
+/// How long the bytes, which are one document, take to be read.
+fn time_decoding(rt: &HostRuntime, rounds: u32, bytes: &[u8]) -> Result<u64, Trouble>
+    requires { rounds ≢ 0 }
+{
+    let (_, length) = decode(rt.alloc(), bytes).map_err(|_| Trouble::Document)?;
     if length != bytes.len() {
         return Err(Trouble::Document);
     }
-    let decoding = quickest(rt, rounds, |_| decode_once(rt.alloc(), bytes.as_slice()))?;
-    let encoding = quickest(rt, rounds, |_| encode_once(rt.alloc(), &document))?;
-    let _ = println!(rt; "decode {decoding} {length}");
-    let _ = println!(rt; "encode {encoding} {length}");
-    Ok(())
+    quickest(rt, rounds, |_| decode_once(rt.alloc(), bytes))
+}
+
+/// How long the document of these bytes takes to be written.
+fn time_encoding(rt: &HostRuntime, rounds: u32, bytes: &[u8]) -> Result<u64, Trouble>
+    requires { rounds ≢ 0 }
+{
+    let (document, _) = decode(rt.alloc(), bytes).map_err(|_| Trouble::Document)?;
+    quickest(rt, rounds, |_| encode_once(rt.alloc(), &document))
 }
 
 /// The file, and how many rounds, at least one.

@@ -19,6 +19,7 @@
 
 mod checks;
 mod documents;
+mod fields;
 mod halls;
 mod pools;
 mod replica_set;

@@ -44,8 +44,15 @@ struct Busy {
 pub fn measure(rt: &HostRuntime, words: &mut Args) -> Result<(), Trouble> {
     let asked = parsed(words).ok_or(Trouble::Words)?;
     let mut busy = filled(rt.alloc(), asked).ok_or(Trouble::Answer)?;
-    let round = quickest(rt, asked.rounds, |_| round(&mut busy))?;
-    let sweep = quickest(rt, asked.rounds, |_| sweep(&mut busy.pool))?;
+    measure_in(rt, asked.rounds, &mut busy)
+}
+
+/// How long a round and a sweep take in a busy pool.
+fn measure_in(rt: &HostRuntime, rounds: u32, busy: &mut Busy) -> Result<(), Trouble>
+    requires { rounds ≢ 0 }
+{
+    let round = quickest(rt, rounds, |_| round(busy))?;
+    let sweep = quickest(rt, rounds, |_| sweep(&mut busy.pool))?;
     let _ = println!(rt; "round {round} sweep {sweep}");
     Ok(())
 }
@@ -80,21 +87,26 @@ fn filled(alloc: Global, asked: Asked) -> Option<Busy> {
         lent: VecDeque::new(alloc),
     };
     busy.pool.ready();
+    fill(&mut busy, asked)?;
+    Some(busy)
+}
+
+/// Lends so many connections, has so many come back and so many tickets enter.
+fn fill(busy: &mut Busy, asked: Asked) -> Option<()> {
     for _ in 0..asked.lent {
-        dial(&mut busy)?;
+        dial(busy)?;
     }
     for _ in 0..asked.available {
-        dial(&mut busy)?;
+        dial(busy)?;
     }
     for _ in 0..asked.available {
         let conn = busy.lent.pop_back()?;
         check_in(&mut busy.pool, conn)?;
     }
     for _ in 0..asked.waiting {
-        enter(&mut busy)?;
+        enter(busy)?;
     }
-    enter(&mut busy)?;
-    Some(busy)
+    enter(busy)
 }
 
 /// A ticket enters, dials, and is lent the connection.

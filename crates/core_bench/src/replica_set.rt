@@ -29,11 +29,17 @@ pub fn member(
 ) -> Option<ServerDescription> {
     let mut description = default_unknown(alloc, host).ok()?;
     description.kind = kind;
+    fill(alloc, &mut description, hosts)?;
+    Some(description)
+}
+
+/// Has a description name the set and list these hosts.
+fn fill(alloc: Global, description: &mut ServerDescription, hosts: &[Host]) -> Option<()> {
     description.set_name = Some(Text::take(alloc, "rs").ok()?);
     for host in hosts {
         description.listed.push(host.copy(alloc).ok()?).ok()?;
     }
-    Some(description)
+    Some(())
 }
 
 /// Takes the event in, where its host is in the topology.

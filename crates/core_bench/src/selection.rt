@@ -46,12 +46,22 @@ impl Loads for Idle {
 pub fn measure(rt: &HostRuntime, words: &mut Args) -> Result<(), Trouble> {
     let asked = parsed(words).ok_or(Trouble::Words)?;
     let topology = replica_set(rt.alloc(), asked.count).ok_or(Trouble::Answer)?;
-    let Ok(nearest) = ReadPref::new(Mode::Nearest, Rows::new(rt.alloc())) else {
-        return Err(Trouble::Answer);
-    };
+    let nearest = ReadPref::new(Mode::Nearest, Rows::new(rt.alloc())).map_err(|_| Trouble::Answer)?;
+    selecting(rt, asked.rounds, &topology, &nearest)
+}
+
+/// How long a selection takes.
+fn selecting(
+    rt: &HostRuntime,
+    rounds: u32,
+    topology: &Topology,
+    nearest: &ReadPref,
+) -> Result<(), Trouble>
+    requires { rounds ≢ 0 }
+{
     let mut kept = Rows::new(rt.alloc());
-    let best = quickest(rt, asked.rounds, |word| {
-        select(rt.alloc(), &topology, &nearest, word, &mut kept)
+    let best = quickest(rt, rounds, |word| {
+        select(rt.alloc(), topology, nearest, word, &mut kept)
     })?;
     let _ = println!(rt; "pick {best} {}", kept.len());
     Ok(())
@@ -71,24 +81,41 @@ fn parsed(words: &mut Args) -> Option<Asked>
 fn replica_set(alloc: Global, count: u32) -> Option<Topology> {
     let hosts = hosts(alloc, count)?;
     let mut topology = opened(alloc, hosts.as_slice())?;
+    take_members_in(alloc, &mut topology, hosts.as_slice())?;
+    Some(topology)
+}
+
+/// Takes in the replies of the hosts, of the first as the primary.
+fn take_members_in(alloc: Global, topology: &mut Topology, hosts: &[Host]) -> Option<()> {
     let mut kind = ServerKind::Primary;
-    for host in hosts.as_slice() {
-        let event = reply(alloc, host, kind, hosts.as_slice())?;
-        take_in(alloc, &mut topology, &event)?;
+    for host in hosts {
+        let event = reply(alloc, host, kind, hosts)?;
+        take_in(alloc, topology, &event)?;
         kind = ServerKind::Secondary;
     }
-    Some(topology)
+    Some(())
 }
 
 /// So many different hosts.
 fn hosts(alloc: Global, count: u32) -> Option<Rows<Host>> {
     let mut hosts = Rows::new(alloc);
+    push_hosts(alloc, &mut hosts, count)?;
+    Some(hosts)
+}
+
+/// Appends so many different hosts.
+fn push_hosts(alloc: Global, hosts: &mut Rows<Host>, count: u32) -> Option<()> {
     for number in 0..count {
-        let text = format!(in alloc; "h{number}.example").ok()?;
-        let host = Host::parse(alloc, text.as_str()).ok()?;
+        let host = host_of(alloc, number)?;
         hosts.push(host).ok()?;
     }
-    Some(hosts)
+    Some(())
+}
+
+/// The host of that number.
+fn host_of(alloc: Global, number: u32) -> Option<Host> {
+    let text = format!(in alloc; "h{number}.example").ok()?;
+    Host::parse(alloc, text.as_str()).ok()
 }
 
 /// The reply of a host as a member of this kind that lists all.

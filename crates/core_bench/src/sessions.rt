@@ -49,11 +49,17 @@ fn parsed(words: &mut Args) -> Option<Asked>
 /// So many sessions that are out.
 fn leased(alloc: Global, book: &mut SessBook, out: u32) -> Option<Vec<Lease>> {
     let mut leases = Vec::new(alloc);
+    push_leases(book, &mut leases, out)?;
+    Some(leases)
+}
+
+/// Leases so many sessions.
+fn push_leases(book: &mut SessBook, leases: &mut Vec<Lease>, out: u32) -> Option<()> {
     for word in 0..out {
         let lease = take(book, u64::from(word))?;
         leases.push(lease).ok()?;
     }
-    Some(leases)
+    Some(())
 }
 
 /// Leases a session, with the id of the word where one is made.

@@ -8,6 +8,7 @@
 
 ghost use Rattle.std.specs.Prelude.{◌≢◌, ◌≤◌, IfSome};
 
+use crate::fields::put_text;
 use crate::replica_set::{MOST_HOSTS, member, opened, take_in};
 use crate::timing::quickest;
 use crate::trouble::Trouble;
@@ -69,12 +70,22 @@ fn taking_in(rt: &HostRuntime, asked: Asked, hosts: &[Host]) -> Result<(), Troub
 {
     let mut topology = opened(rt.alloc(), hosts).ok_or(Trouble::Answer)?;
     take_members_in(rt.alloc(), &mut topology, hosts).ok_or(Trouble::Answer)?;
-    let event = event(rt.alloc(), asked, hosts).ok_or(Trouble::Answer)?;
-    let best = quickest(rt, asked.rounds, |_| {
-        take_in(rt.alloc(), &mut topology, &event)
-    })?;
+    let best = time_event(rt, asked, &mut topology, hosts)?;
     let _ = println!(rt; "apply {best} {}", asked.count);
     Ok(())
+}
+
+/// How long the event that is asked for takes to be taken in.
+fn time_event(
+    rt: &HostRuntime,
+    asked: Asked,
+    topology: &mut Topology,
+    hosts: &[Host],
+) -> Result<u64, Trouble>
+    requires { asked.rounds ≢ 0 }
+{
+    let event = event(rt.alloc(), asked, hosts).ok_or(Trouble::Answer)?;
+    quickest(rt, asked.rounds, |_| take_in(rt.alloc(), topology, &event))
 }
 
 /// How long a reply takes to be described.
@@ -132,17 +143,32 @@ fn hosts(alloc: Global, asked: Asked) -> Option<Rows<Host>>
     requires { asked.count ≤ 1000 }
 {
     let mut hosts = Rows::new(alloc);
+    push_hosts(alloc, &mut hosts, asked)?;
+    Some(hosts)
+}
+
+/// Appends so many different hosts.
+fn push_hosts(alloc: Global, hosts: &mut Rows<Host>, asked: Asked) -> Option<()>
+    requires { asked.count ≤ 1000 }
+{
     for place in 0..asked.count {
-        let number = place * STRIDE;
-        let text = if asked.equal {
-            format!(in alloc; "{EQUAL_FRONT}{}", EIGHT_DIGITS + number).ok()?
-        } else {
-            format!(in alloc; "h{number}.example").ok()?
-        };
-        let host = Host::parse(alloc, text.as_str()).ok()?;
+        let host = host_of(alloc, asked.equal, place * STRIDE)?;
         hosts.push(host).ok()?;
     }
-    Some(hosts)
+    Some(())
+}
+
+/// The host of that number, by a name of one hash with the others or by a plain one.
+fn host_of(alloc: Global, equal: bool, number: u32) -> Option<Host>
+    requires { number ≤ 10000000 }
+{
+    let text = if equal {
+        format!(in alloc; "{EQUAL_FRONT}{}", EIGHT_DIGITS + number)
+    } else {
+        format!(in alloc; "h{number}.example")
+    };
+    let text = text.ok()?;
+    Host::parse(alloc, text.as_str()).ok()
 }
 
 /// The event of the first host.
@@ -160,21 +186,35 @@ fn event(alloc: Global, asked: Asked, hosts: &[Host]) -> Option<TopoEvent> {
 
 /// The hello reply of a primary that lists all.
 fn reply_document(alloc: Global, hosts: &[Host]) -> Option<Document> {
-    let mut listed = Rows::new(alloc);
-    for host in hosts {
-        let text = host.text(alloc).ok()?;
-        let name = Text::take(alloc, text.as_str()).ok()?;
-        listed.push(Value::Str(name)).ok()?;
-    }
-    let set = Text::take(alloc, "rs").ok()?;
     let mut reply = Document::new(alloc);
+    put_fields(alloc, &mut reply, hosts)?;
+    Some(reply)
+}
+
+/// Puts the fields of such a reply.
+fn put_fields(alloc: Global, reply: &mut Document, hosts: &[Host]) -> Option<()> {
     reply.put(alloc, "ok", Value::Int32(1)).ok()?;
-    reply.put(alloc, "setName", Value::Str(set)).ok()?;
+    put_text(alloc, reply, "setName", "rs")?;
     reply
         .put(alloc, "isWritablePrimary", Value::Bool(true))
         .ok()?;
-    reply.put(alloc, "hosts", Value::Array(listed)).ok()?;
-    Some(reply)
+    let mut listed = Rows::new(alloc);
+    push_names(alloc, &mut listed, hosts)?;
+    reply.put(alloc, "hosts", Value::Array(listed)).ok()
+}
+
+/// Appends the names of the hosts.
+fn push_names(alloc: Global, listed: &mut Rows<Value>, hosts: &[Host]) -> Option<()> {
+    for host in hosts {
+        listed.push(Value::Str(name_of(alloc, host)?)).ok()?;
+    }
+    Some(())
+}
+
+/// The name of a host.
+fn name_of(alloc: Global, host: &Host) -> Option<Text> {
+    let text = host.text(alloc).ok()?;
+    Text::take(alloc, text.as_str()).ok()
 }
 
 /// The reply of a host as a member of this kind that lists all.

@@ -101,6 +101,35 @@ struct Outside<'a, N, C, D> {
     dice: D,
 }
 
+/// What a run is asked for.
+#[derive(Drop)]
+struct Asked {
+    words: Rows<Text>,
+    script: SliceSource,
+    picker: Box<KeepAll>,
+}
+
+/// The script, against that port.
+fn asked_of(alloc: Global, port: u16) -> Result<Asked, AllocError> {
+    let mut words = Rows::new(alloc);
+    push_words(alloc, &mut words, port)?;
+    let bytes = Bytes::take(alloc, SCRIPT.as_bytes())?;
+    Ok(Asked {
+        words,
+        script: SliceSource::new(bytes, Rows::new(alloc)),
+        picker: Box::new(alloc, KeepAll)?,
+    })
+}
+
+/// Appends the words of a run against that port.
+fn push_words(alloc: Global, words: &mut Rows<Text>, port: u16) -> Result<(), AllocError> {
+    let uri = format!(in alloc; "mongodb://127.0.0.1:{port}/?replicaSet=rs0")?;
+    for word in ["run", uri.as_str()] {
+        words.push(Text::take(alloc, word)?)?;
+    }
+    Ok(())
+}
+
 /// Runs the script against that port, and says whether its status is 0.
 fn is_run<
     R: Threads + Wait + Sync,
@@ -116,14 +145,12 @@ fn is_run<
 ) -> Result<bool, AllocError>
     requires fresh { N.tells → N.history outside.net ≡ [] }
 {
-    let uri = format!(in alloc; "mongodb://127.0.0.1:{port}/?replicaSet=rs0")?;
-    let mut words = Rows::new(alloc);
-    for word in ["run", uri.as_str()] {
-        words.push(Text::take(alloc, word)?)?;
-    }
-    let mut script = SliceSource::new(Bytes::take(alloc, SCRIPT.as_bytes())?, Rows::new(alloc));
+    let Asked {
+        words,
+        mut script,
+        picker,
+    } = asked_of(alloc, port)?;
     let Outside { net, clock, dice } = outside;
-    let picker = Box::new(alloc, KeepAll)?;
     let ended = run(
         rt,
         alloc,

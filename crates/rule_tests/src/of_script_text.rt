@@ -279,101 +279,142 @@ fn lines_and_faults(rt: HostRuntime) -> Result<(), Fail> {
     Ok(())
 }
 
+/// Whether the answer to a script is this.
+fn is_answer(alloc: Global, script: &[u8], wanted: &str) -> Result<bool, Fail> {
+    let answer = answer_of(alloc, script)?;
+    Ok(answer.as_str() == wanted)
+}
+
+/// What stands ahead of a line, between it and the same line, and behind that.
+const CUTS: [(&str, &str, &str); 5] = [
+    ("", "\n", "\n"),
+    ("", "\n", ""),
+    ("", "\r\n", "\r\n"),
+    ("", "\r\n", "\r"),
+    ("\n  ", "  \n   \n", "\n\n"),
+];
+
 #[test]
 fn lines_are_cut_at_each_lf(rt: HostRuntime) -> Result<(), Fail> {
     let alloc = rt.alloc();
-    let two = "1 - a 0;1 - a 0;";
-    for text in [
-        format!(in alloc; "{LINE}\n{LINE}\n")?,
-        format!(in alloc; "{LINE}\n{LINE}")?,
-        format!(in alloc; "{LINE}\r\n{LINE}\r\n")?,
-        format!(in alloc; "{LINE}\r\n{LINE}\r")?,
-        format!(in alloc; "\n  {LINE}  \n   \n{LINE}\n\n")?,
-    ] {
-        let answer = answer_of(alloc, text.as_bytes())?;
-        assert_eq!(rt; answer.as_str(), two, "{text}");
+    for (front, middle, behind) in CUTS {
+        let text = format!(in alloc; "{front}{LINE}{middle}{LINE}{behind}")?;
+        let is_two = is_answer(alloc, text.as_bytes(), "1 - a 0;1 - a 0;")?;
+        assert!(rt; is_two, "{text}");
     }
+    Ok(())
+}
+
+#[test]
+fn the_second_of_two_lines_is_told(rt: HostRuntime) -> Result<(), Fail> {
+    let alloc = rt.alloc();
     let second = format!(in alloc;
         "{LINE}\n{{\"lane\":0,\"op\":\"insert\",\"coll\":\"a\",\"doc\":{{}}}}"
     )?;
-    assert_eq!(rt; answer_of(alloc, second.as_bytes())?.as_str(), "2 lane");
+    let is_lane = is_answer(alloc, second.as_bytes(), "2 lane")?;
     let two_on_a_line = format!(in alloc; "{LINE}\r{LINE}")?;
-    assert_eq!(rt;
-        answer_of(alloc, two_on_a_line.as_bytes())?.as_str(),
-        "1 json"
-    );
+    let is_json = is_answer(alloc, two_on_a_line.as_bytes(), "1 json")?;
+    assert_eq!(rt; (is_lane, is_json), (true, true));
     Ok(())
 }
 
 #[test]
 fn bytes_that_are_no_utf8(rt: HostRuntime) -> Result<(), Fail> {
-    assert_eq!(rt; answer_of(rt.alloc(), b"\xff")?.as_str(), "1 json");
-    assert_eq!(rt;
-        answer_of(rt.alloc(), b"\n{\"a\":\"\xc3\"}\n")?.as_str(),
-        "2 json"
-    );
-    assert_eq!(rt; answer_of(rt.alloc(), b" \n\xc0\x80")?.as_str(), "2 json");
+    let alloc = rt.alloc();
+    let told = [
+        is_answer(alloc, b"\xff", "1 json")?,
+        is_answer(alloc, b"\n{\"a\":\"\xc3\"}\n", "2 json")?,
+        is_answer(alloc, b" \n\xc0\x80", "2 json")?,
+    ];
+    assert_eq!(rt; told, [true; 3]);
     Ok(())
 }
 
 #[test]
 fn depths_of_documents_and_of_json(rt: HostRuntime) -> Result<(), Fail> {
     // The document lies one level inside its line.
-    assert_eq!(rt; nested_document(rt.alloc(), 90)?.as_str(), "1 - a 1;");
-    assert_eq!(rt; nested_document(rt.alloc(), 91)?.as_str(), "1 deep");
-    assert_eq!(rt; nested_document(rt.alloc(), 126)?.as_str(), "1 deep");
-    assert_eq!(rt; nested_document(rt.alloc(), 127)?.as_str(), "1 json");
+    for (depth, wanted) in [
+        (90, "1 - a 1;"),
+        (91, "1 deep"),
+        (126, "1 deep"),
+        (127, "1 json"),
+    ] {
+        let answer = nested_document(rt.alloc(), depth)?;
+        assert_eq!(rt; answer.as_str(), wanted, "{depth}");
+    }
     Ok(())
+}
+
+/// How many commands a script has.
+fn count_of(alloc: Global, script: &[u8]) -> Result<Option<usize>, Fail> {
+    let mut source = SliceSource::new(Bytes::take(alloc, script)?, Rows::new(alloc));
+    Ok(
+        read_script(alloc, &mut source)
+            .ok()
+            .map(|commands| commands.len()),
+    )
+}
+
+/// Whether that line more, behind so many commands that no more may stand there, is told so.
+fn is_told(alloc: Global, most: &str, line: &str, wanted: &str) -> Result<bool, Fail> {
+    let text = format!(in alloc; "{most}{line}")?;
+    is_answer(alloc, text.as_bytes(), wanted)
 }
 
 #[test]
 fn one_command_too_many(rt: HostRuntime) -> Result<(), Fail> {
     let alloc = rt.alloc();
     let most = repeated(alloc, LINE, 100_000)?;
-    let mut source = SliceSource::new(Bytes::take(alloc, most.as_bytes())?, Rows::new(alloc));
-    assert_eq!(rt; read_script(alloc, &mut source)?.len(), 100_000);
-    let long = format!(in alloc; "{most}\n{LINE}\n")?;
-    assert_eq!(rt; answer_of(alloc, long.as_bytes())?.as_str(), "100002 long");
-    let faulty = format!(in alloc; "{most}{{\n")?;
-    assert_eq!(rt;
-        answer_of(alloc, faulty.as_bytes())?.as_str(),
-        "100001 json"
-    );
+    let count = count_of(alloc, most.as_bytes())?;
+    let one_more = format!(in alloc; "\n{LINE}\n")?;
+    let is_long = is_told(alloc, most.as_str(), one_more.as_str(), "100002 long")?;
+    let is_json = is_told(alloc, most.as_str(), "{\n", "100001 json")?;
+    assert_eq!(rt; (count, is_long, is_json), (Some(100_000), true, true));
     Ok(())
+}
+
+/// Appends as many bytes as a script may have: a line at fault, an empty one, and blanks.
+fn push_most(bytes: &mut Vec<u8>) -> Result<(), AllocError> {
+    bytes.extend_from_slice(b"{\n\n")?;
+    let blanks = [b' '; 4096];
+    for _ in 0..4095 {
+        bytes.extend_from_slice(&blanks)?;
+    }
+    bytes.extend_from_slice(&blanks[..4093])
 }
 
 #[test]
 fn one_byte_too_many(rt: HostRuntime) -> Result<(), Fail> {
     let alloc = rt.alloc();
     let mut bytes = Vec::new(alloc);
-    bytes.extend_from_slice(b"{\n\n")?;
-    let blanks = [b' '; 4096];
-    for _ in 0..4095 {
-        bytes.extend_from_slice(&blanks)?;
-    }
-    bytes.extend_from_slice(&blanks[..4093])?;
-    assert_eq!(rt; bytes.len(), 16_777_216);
-    assert_eq!(rt; answer_of(alloc, bytes.as_slice())?.as_str(), "1 json");
+    push_most(&mut bytes)?;
+    let length = bytes.len();
+    let is_json = is_answer(alloc, bytes.as_slice(), "1 json")?;
     bytes.push(b'\n')?;
-    assert_eq!(rt; answer_of(alloc, bytes.as_slice())?.as_str(), "3 long");
+    let is_long = is_answer(alloc, bytes.as_slice(), "3 long")?;
     bytes.push(b'\n')?;
-    assert_eq!(rt; answer_of(alloc, bytes.as_slice())?.as_str(), "3 long");
+    let is_longer = is_answer(alloc, bytes.as_slice(), "3 long")?;
+    assert_eq!(rt; length, 16_777_216);
+    assert_eq!(rt; (is_json, is_long, is_longer), (true, true, true));
     Ok(())
+}
+
+/// What a script of one line comes to whose read of that number fails: whether that is told, and whether it is read.
+fn read_failing(alloc: Global, call: u64) -> Result<(bool, bool), Fail> {
+    let fails = Rows::take(alloc, &[call])?;
+    let mut source = SliceSource::new(Bytes::take(alloc, LINE.as_bytes())?, fails);
+    let read = read_script(alloc, &mut source);
+    Ok((matches!(read, Err(ScriptRead::ReadFault)), read.is_ok()))
 }
 
 #[test]
 fn a_read_that_fails(rt: HostRuntime) -> Result<(), Fail> {
-    let alloc = rt.alloc();
-    for call in [1, 2] {
-        let mut fails = Rows::new(alloc);
-        fails.push(call)?;
-        let mut source = SliceSource::new(Bytes::take(alloc, LINE.as_bytes())?, fails);
-        assert!(rt; matches!(read_script(alloc, &mut source), Err(ScriptRead::ReadFault)));
-    }
-    let mut fails = Rows::new(alloc);
-    fails.push(3)?;
-    let mut source = SliceSource::new(Bytes::take(alloc, LINE.as_bytes())?, fails);
-    assert!(rt; read_script(alloc, &mut source).is_ok());
+    let read = [
+        read_failing(rt.alloc(), 1)?,
+        read_failing(rt.alloc(), 2)?,
+        read_failing(rt.alloc(), 3)?,
+    ];
+    assert_eq!(rt; read, [(true, false), (true, false), (false, true)]);
     Ok(())
 }
 

@@ -16,23 +16,53 @@ pub fn event_fact(
     name: &str,
 ) -> Result<Option<String>, CaseFault> {
     let mut line = String::from_str(alloc, name)?;
-    match name {
-        "events" => write!(&mut line, " {}", events.len())?,
-        "last" => push_last(&mut line, events)?,
-        "closed" => write!(&mut line, " {}", count_closed(events))?,
-        "came" => {
-            let bytes = all_that_came(alloc, events)?;
-            line.push_str(" ")?;
-            known.push_name(&mut line, bytes.as_slice())?;
-        }
-        "dialled" | "sent" => {
-            for event in events {
-                push_event(&mut line, known, name, event)?;
-            }
-        }
-        _ => return Ok(None),
+    if push_fact(alloc, &mut line, known, events, name)? {
+        return Ok(Some(line));
     }
-    Ok(Some(line))
+    Ok(None)
+}
+
+/// Appends what the fact of that name says; whether there is one.
+fn push_fact(
+    alloc: Global,
+    line: &mut String,
+    known: &Known,
+    events: &[NetEvent],
+    name: &str,
+) -> Result<bool, Memory> {
+    match name {
+        "events" => write!(line, " {}", events.len())?,
+        "last" => push_last(line, events)?,
+        "closed" => write!(line, " {}", count_closed(events))?,
+        "came" => push_came(alloc, line, known, events)?,
+        "dialled" | "sent" => push_events(line, known, name, events)?,
+        _ => return Ok(false),
+    }
+    Ok(true)
+}
+
+/// Appends the name of all that came.
+fn push_came(
+    alloc: Global,
+    line: &mut String,
+    known: &Known,
+    events: &[NetEvent],
+) -> Result<(), Memory> {
+    let bytes = all_that_came(alloc, events)?;
+    line.push_str(" ")?;
+    known.push_name(line, bytes.as_slice())
+}
+
+fn push_events(
+    line: &mut String,
+    known: &Known,
+    name: &str,
+    events: &[NetEvent],
+) -> Result<(), Memory> {
+    for event in events {
+        push_event(line, known, name, event)?;
+    }
+    Ok(())
 }
 
 fn push_event(

@@ -42,27 +42,46 @@ fn run_fact(
         return Err(CaseFault::Memory);
     }
     let mut line = String::from_str(alloc, name)?;
-    match name {
-        "status" => write!(&mut line, " {}", run.status.code())?,
-        "usage" => match &run.status {
-            Status::Usage(fault) => push_use_fault(&mut line, fault)?,
-            _ => line.push_str(" none")?,
-        },
-        "members" => match &run.soaked {
-            Some(hall) => write!(&mut line, " {}", hall.members())?,
-            None => line.push_str(" 0")?,
-        },
-        "out" => {
-            line.push_str(" ")?;
-            push_quoted(&mut line, run.out.written())?;
-        }
-        "entries" => write!(&mut line, " {}", run.trail.steps.len())?,
-        "hosts" => push_hosts(&mut line, &run.trail)?,
-        "attempts" => push_attempts(&mut line, &run.trail)?,
-        "requests" | "ids" => push_requests(&mut line, known, name, &run.trail)?,
-        _ => return event_fact(alloc, known, run.net.events(), name),
+    if push_fact(&mut line, known, run, name)? {
+        return Ok(Some(line));
     }
-    Ok(Some(line))
+    event_fact(alloc, known, run.net.events(), name)
+}
+
+/// Appends what the fact of that name says, unless it is one about the net: whether it is not.
+fn push_fact(line: &mut String, known: &Known, run: &Run, name: &str) -> Result<bool, Memory> {
+    match name {
+        "status" => write!(line, " {}", run.status.code())?,
+        "usage" => push_usage(line, &run.status)?,
+        "members" => write!(line, " {}", members_of(run))?,
+        "out" => push_out(line, run)?,
+        "entries" => write!(line, " {}", run.trail.steps.len())?,
+        "hosts" => push_hosts(line, &run.trail)?,
+        "attempts" => push_attempts(line, &run.trail)?,
+        "requests" | "ids" => push_requests(line, known, name, &run.trail)?,
+        _ => return Ok(false),
+    }
+    Ok(true)
+}
+
+fn push_usage(line: &mut String, status: &Status) -> Result<(), Memory> {
+    match status {
+        Status::Usage(fault) => push_use_fault(line, fault),
+        _ => line.push_str(" none"),
+    }
+}
+
+/// How many members a soak left.
+fn members_of(run: &Run) -> u32 {
+    match &run.soaked {
+        Some(hall) => hall.members(),
+        None => 0,
+    }
+}
+
+fn push_out(line: &mut String, run: &Run) -> Result<(), Memory> {
+    line.push_str(" ")?;
+    push_quoted(line, run.out.written())
 }
 
 fn push_use_fault(line: &mut String, fault: &UseFault) -> Result<(), Memory> {

@@ -49,14 +49,15 @@ pub fn ran<R: Threads + Wait + Sync>(
     known: &Known,
     words: &mut Words<'_>,
 ) -> Result<Run, CaseFault> {
-    let mut script = source(alloc, known, words)?;
     let net = net(alloc, known, words)?;
-    let clock = TickClock::new(0, words.number(alloc, "step")?.unwrap_or(STEP));
-    let room: u32 = words.number(alloc, "room")?.unwrap_or(ROOM);
-    let mut out = VecSink::new(alloc, room as usize, Rows::new(alloc))?;
-    let line = command_line(alloc, words)?;
-    let dice = dice(alloc)?;
-    let picker = Box::new(alloc, KeepAll)?;
+    let Asked {
+        mut script,
+        clock,
+        mut out,
+        line,
+        dice,
+        picker,
+    } = asked_by(alloc, known, words)?;
     let Ended {
         status,
         net,
@@ -85,6 +86,36 @@ pub fn ran<R: Threads + Wait + Sync>(
     })
 }
 
+/// What a run is asked for, beside the net.
+#[derive(Drop)]
+struct Asked {
+    script: SliceSource,
+    clock: TickClock,
+    out: VecSink,
+    line: Rows<Text>,
+    dice: ListDice,
+    picker: Box<KeepAll>,
+}
+
+/// What a run is asked for by the words, none of which is left.
+fn asked_by(alloc: Global, known: &Known, words: &mut Words<'_>) -> Result<Asked, CaseFault> {
+    let step = words.number(alloc, "step")?.unwrap_or(STEP);
+    let room: u32 = words.number(alloc, "room")?.unwrap_or(ROOM);
+    let picker = Box::new(alloc, KeepAll)?;
+    let dice = dice(alloc)?;
+    let script = source(alloc, known, words)?;
+    let line = command_line(alloc, words)?;
+    let out = VecSink::new(alloc, room as usize, Rows::new(alloc))?;
+    Ok(Asked {
+        script,
+        clock: TickClock::new(0, step),
+        out,
+        line,
+        dice,
+        picker,
+    })
+}
+
 fn source(alloc: Global, known: &Known, words: &mut Words<'_>) -> Result<SliceSource, CaseFault> {
     let bytes = match words.value("script") {
         Some(name) => known.find(alloc, name)?,
@@ -101,19 +132,28 @@ fn net(alloc: Global, known: &Known, words: &mut Words<'_>) -> Result<ScriptNet,
     let fails = numbers(alloc, words.value("fails"))?;
     let mut plans = Rows::new(alloc);
     if let Some(names) = words.value("streams") {
-        for name in names.split(',') {
-            let (name, ends) = match name.strip_suffix('.') {
-                Some(name) => (name, true),
-                None => (name, false),
-            };
-            plans.push(StreamPlan {
-                bytes: joined(alloc, known, name)?,
-                most,
-                ends,
-            })?;
-        }
+        push_plans(alloc, known, names, most, &mut plans)?;
     }
     Ok(ScriptNet::new(alloc, plans, fails))
+}
+
+/// Appends the streams of the names between commas, each of which gives at most so many bytes a read.
+fn push_plans(
+    alloc: Global,
+    known: &Known,
+    names: &str,
+    most: u32,
+    plans: &mut Rows<StreamPlan>,
+) -> Result<(), CaseFault> {
+    for name in names.split(',') {
+        let (name, ends) = match name.strip_suffix('.') {
+            Some(name) => (name, true),
+            None => (name, false),
+        };
+        let bytes = joined(alloc, known, name)?;
+        plans.push(StreamPlan { bytes, most, ends })?;
+    }
+    Ok(())
 }
 
 /// The bytes of the names between plus signs, one behind the other.

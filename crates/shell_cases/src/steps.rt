@@ -7,7 +7,7 @@
 //! - `mdc WORD..` runs a script, as [`ran`](crate::runs::ran) says.
 use crate::known::Known;
 use crate::quoted::push_word;
-use case_files::{CaseFault, Words, parsed};
+use case_files::{CaseFault, Memory, Words, parsed};
 use std::alloc::Global;
 
 /// The first word of a step that runs a script.
@@ -44,12 +44,7 @@ fn text(alloc: Global, words: &mut Words<'_>) -> Result<Vec<u8>, CaseFault> {
     let times: u16 = words.number(alloc, "times")?.unwrap_or(1);
     let open = words.flag("open");
     let mut line = Vec::new(alloc);
-    for word in words.rest(alloc) {
-        if !line.is_empty() {
-            line.push(b' ')?;
-        }
-        line.extend_from_slice(word.as_bytes())?;
-    }
+    push_line(alloc, words, &mut line)?;
     if !open {
         line.push(b'\n')?;
     }
@@ -60,10 +55,27 @@ fn text(alloc: Global, words: &mut Words<'_>) -> Result<Vec<u8>, CaseFault> {
     Ok(lines)
 }
 
+/// Appends the words that are left, with blanks between them.
+fn push_line(alloc: Global, words: &mut Words<'_>, line: &mut Vec<u8>) -> Result<(), CaseFault> {
+    for word in words.rest(alloc) {
+        if !line.is_empty() {
+            line.push(b' ')?;
+        }
+        line.extend_from_slice(word.as_bytes())?;
+    }
+    Ok(())
+}
+
 fn zeros(alloc: Global, words: &mut Words<'_>) -> Result<Vec<u8>, CaseFault> {
     let count: u32 = parsed(alloc, words.must_value("count")?)?;
     let letters: u32 = parsed(alloc, words.must_value("letters")?)?;
     let mut line = Vec::new(alloc);
+    push_zeros(&mut line, count, letters)?;
+    Ok(line)
+}
+
+/// Appends the line of an insert of so many zeros and so many letters.
+fn push_zeros(line: &mut Vec<u8>, count: u32, letters: u32) -> Result<(), Memory> {
     line.extend_from_slice(br#"{"lane":1,"op":"insert","coll":"a","doc":{"a":["#)?;
     for place in 0..count {
         if place > 0 {
@@ -75,6 +87,5 @@ fn zeros(alloc: Global, words: &mut Words<'_>) -> Result<Vec<u8>, CaseFault> {
     for _ in 0..letters {
         line.push(b'x')?;
     }
-    line.extend_from_slice(b"\"}}\n")?;
-    Ok(line)
+    line.extend_from_slice(b"\"}}\n")
 }

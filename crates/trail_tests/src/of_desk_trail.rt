@@ -1,13 +1,18 @@
 //! Each public call on its happy path. Trails that are legal, and some that are not, stand in the crate `trail_worked`.
-use bson_doc::{Bytes, Lsid, Rows};
-use desk_trail::{CheckHow, Entry, OfferedHow, Purpose, Request, Room, TrailWriter, laws};
+ghost use Rattle.std.specs.Prelude.{◌≡◌};
+ghost use Rattle.desk_trail.specs.Written.{no_lists};
+
+use bson_doc::{Bytes, Lsid};
+use desk_trail::{CheckHow, Entry, OfferedHow, Purpose, Request, Room, Step, TrailWriter, laws};
 use host_name::Host;
+use std::alloc::Global;
 use std::test::Fail;
 use topo_rules::TopoEvent;
 
-#[test]
-fn what_is_written_stands_in_order(rt: HostRuntime) -> Result<(), Fail> {
-    let mut writer = TrailWriter::new(rt.alloc());
+/// A check of one server, which ended by a broken connection, and a session.
+fn write_check(alloc: Global, writer: &mut TrailWriter) -> Result<(), Fail>
+    requires { writer.old.lists ≡ no_lists }
+{
     writer.reserve(Room {
         names: 1,
         events: 1,
@@ -15,15 +20,9 @@ fn what_is_written_stands_in_order(rt: HostRuntime) -> Result<(), Fail> {
         requests: 1,
         steps: 6,
     })?;
-    writer.name(5, Host::parse(rt.alloc(), "a")?);
-    let request = Request {
-        stream: 9,
-        id: 1,
-        purpose: Purpose::Check { host: 0 },
-        bytes: Bytes::new(rt.alloc()),
-    };
+    writer.name(5, Host::parse(alloc, "a")?);
     writer.append(6, Entry::CheckBegan { host: 0, stream: 9 });
-    writer.ask(6, request);
+    writer.ask(6, hello(alloc));
     writer.append(
         7,
         Entry::CheckEnded {
@@ -31,22 +30,59 @@ fn what_is_written_stands_in_order(rt: HostRuntime) -> Result<(), Fail> {
             how: CheckHow::Cut,
         },
     );
-    let event = TopoEvent::Broken {
-        host: Host::parse(rt.alloc(), "a")?,
-        generation: None,
-    };
-    writer.offer(7, event, OfferedHow::Accepted { differs: false });
+    let host = Host::parse(alloc, "a")?;
+    writer.offer(7, broken(host), OfferedHow::Accepted { differs: false });
     writer.lease(8, 3, Lsid([7; 16]));
-    assert_eq!(rt; writer.names().len(), 1);
-    assert_eq!(rt; writer.events().len(), 1);
-    assert_eq!(rt; writer.sessions().len(), 1);
-    assert_eq!(rt; writer.requests().len(), 1);
-    assert_eq!(rt; writer.steps().len(), 6);
+    Ok(())
+}
+
+/// The request of a check.
+fn hello(alloc: Global) -> Request {
+    Request {
+        stream: 9,
+        id: 1,
+        purpose: Purpose::Check { host: 0 },
+        bytes: Bytes::new(alloc),
+    }
+}
+
+fn broken(host: Host) -> TopoEvent {
+    TopoEvent::Broken {
+        host,
+        generation: None,
+    }
+}
+
+/// How many of each were written: names, events, sessions, requests, steps.
+fn counts(writer: &TrailWriter) -> [usize; 5] {
+    [
+        writer.names().len(),
+        writer.events().len(),
+        writer.sessions().len(),
+        writer.requests().len(),
+        writer.steps().len(),
+    ]
+}
+
+/// How many steps, and the moments of the first and the last one.
+fn ends(steps: &[Step]) -> (usize, Option<u64>, Option<u64>) {
+    (
+        steps.len(),
+        steps.first().map(|step| step.moment),
+        steps.last().map(|step| step.moment),
+    )
+}
+
+#[test]
+fn what_is_written_stands_in_order(rt: HostRuntime) -> Result<(), Fail> {
+    let mut writer = TrailWriter::new(rt.alloc());
+    write_check(rt.alloc(), &mut writer)?;
+    let written = counts(&writer);
     let trail = writer.into_trail();
-    let steps = trail.steps.as_slice();
-    assert_eq!(rt; steps.len(), 6);
-    assert!(rt; matches!(steps.first(), Some(step) if step.moment == 5));
-    assert!(rt; matches!(steps.last(), Some(step) if step.moment == 8));
+    let ends = ends(trail.steps.as_slice());
+    drop(trail);
+    assert!(rt; written == [1, 1, 1, 1, 6]);
+    assert!(rt; ends == (6, Some(5), Some(8)));
     Ok(())
 }
 

@@ -52,9 +52,11 @@ fn one_trail(alloc: Global) -> Result<LegalTrail, Fail> {
 #[test]
 fn what_is_written_is_shown(rt: HostRuntime) -> Result<(), Fail> {
     let trail = one_trail(rt.alloc())?;
-    assert!(rt; counts(&trail) == [1, 0, 1, 0, 0, 0, 2]);
+    let shown = counts(&trail);
     let parts = trail.into_parts();
-    assert_eq!(rt; parts.trail.steps.len(), 2);
-    assert_eq!(rt; parts.settings.hosts.len(), 1);
+    let lengths = (parts.trail.steps.len(), parts.settings.hosts.len());
+    drop(parts);
+    assert!(rt; shown == [1, 0, 1, 0, 0, 0, 2]);
+    assert!(rt; lengths == (2, 1));
     Ok(())
 }

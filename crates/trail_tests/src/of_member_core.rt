@@ -40,61 +40,113 @@ fn message(alloc: Global, body: Document) -> Message {
     }
 }
 
-#[test]
-fn a_write_is_added(rt: HostRuntime) -> Result<(), Fail> {
-    let mut primary = member(rt.alloc(), "rs")?;
-    let request = insert(rt.alloc())?;
-    let answered = primary.answer(rt.alloc(), &request, 2, 0, 0, true)?;
-    assert_eq!(rt; answered.effect, Effect::Added);
-    assert_eq!(rt; answered.kept, 0);
-    assert_eq!(rt; primary.log().len(), 1);
+/// What an answer says: its effect, how many writes are kept, and how many bytes it has.
+fn answer(
+    alloc: Global,
+    member: &mut Member,
+    request: &Message,
+    nth: u64,
+    acknowledged: bool,
+) -> Result<(Effect, usize, usize), Memory> {
+    let answered = member.answer(alloc, request, 2, 0, nth, acknowledged)?;
+    Ok((answered.effect, answered.kept, answered.bytes.len()))
+}
+
+/// Three inserts are answered.
+fn insert_thrice(
+    alloc: Global,
+    member: &mut Member,
+    request: &Message,
+    acknowledged: bool,
+) -> Result<(), Memory> {
+    for nth in 0..3 {
+        answer(alloc, member, request, nth, acknowledged)?;
+    }
     Ok(())
 }
 
 #[test]
+fn a_write_is_added(rt: HostRuntime) -> Result<(), Fail> {
+    let request = insert(rt.alloc())?;
+    let mut primary = member(rt.alloc(), "rs")?;
+    let (effect, kept, _) = answer(rt.alloc(), &mut primary, &request, 0, true)?;
+    let logged = primary.log().len();
+    assert!(rt; (effect, kept, logged) == (Effect::Added, 0, 1));
+    Ok(())
+}
+
+/// How many writes two logs share behind three writes, a copy of them, another write of the first member and an election of the
+/// second, and how long the second one's log is.
+fn share(
+    alloc: Global,
+    primary: &mut Member,
+    other: &mut Member,
+    request: &Message,
+) -> Result<[usize; 2], Fail> {
+    insert_thrice(alloc, primary, request, true)?;
+    if other.shared_with(primary, 0) != 0 {
+        return Err(Fail::new("a log that is empty shares a write"));
+    }
+    other.follow(alloc, primary, 0)?;
+    if other.shared_with(primary, 0) != 3 {
+        return Err(Fail::new("a log that was copied shares other than three writes"));
+    }
+    let again = primary.answer(alloc, request, 2, 0, 3, true)?;
+    if again.kept != 3 {
+        return Err(Fail::new("another write keeps other than three"));
+    }
+    other.elect(alloc, Some(primary), 2, 3)?;
+    Ok([other.shared_with(primary, 3), other.log().len()])
+}
+
+#[test]
 fn logs_share_what_was_copied(rt: HostRuntime) -> Result<(), Fail> {
+    let request = insert(rt.alloc())?;
     let mut primary = member(rt.alloc(), "rs")?;
     let mut other = member(rt.alloc(), "rs")?;
-    let request = insert(rt.alloc())?;
-    for nth in 0..3 {
-        primary.answer(rt.alloc(), &request, 2, 0, nth, true)?;
-    }
-    assert_eq!(rt; other.shared_with(&primary, 0), 0);
-    other.follow(rt.alloc(), &primary, 0)?;
-    assert_eq!(rt; other.shared_with(&primary, 0), 3);
-    let again = primary.answer(rt.alloc(), &request, 2, 0, 3, true)?;
-    assert_eq!(rt; again.kept, 3);
-    other.elect(rt.alloc(), Some(&primary), 2, 3)?;
-    assert_eq!(rt; other.log().len(), 4);
-    assert_eq!(rt; other.shared_with(&primary, 3), 4);
+    let shared = share(rt.alloc(), &mut primary, &mut other, &request)?;
+    assert!(rt; shared == [4, 4]);
     Ok(())
 }
 
 #[test]
 fn a_write_without_acknowledgement_is_marked_later(rt: HostRuntime) -> Result<(), Fail> {
-    let mut primary = member(rt.alloc(), "rs")?;
     let request = insert(rt.alloc())?;
-    for nth in 0..3 {
-        primary.answer(rt.alloc(), &request, 2, 0, nth, false)?;
-    }
-    let marked = primary.answer(rt.alloc(), &request, 2, 0, 1, true)?;
-    assert_eq!(rt; marked.effect, Effect::Known);
-    assert_eq!(rt; marked.kept, 1);
-    let known = primary.answer(rt.alloc(), &request, 2, 0, 1, true)?;
-    assert_eq!(rt; known.kept, 3);
+    let mut primary = member(rt.alloc(), "rs")?;
+    let marked = mark(rt.alloc(), &mut primary, &request)?;
+    assert!(rt; marked == (Effect::Known, 1, 3));
     Ok(())
+}
+
+/// Three inserts without acknowledgement, and the same one twice with it: what the first of these comes to and how many writes
+/// are kept then, and how many behind the second.
+fn mark(
+    alloc: Global,
+    primary: &mut Member,
+    request: &Message,
+) -> Result<(Effect, usize, usize), Memory> {
+    insert_thrice(alloc, primary, request, false)?;
+    let (effect, marked, _) = answer(alloc, primary, request, 1, true)?;
+    let (_, kept, _) = answer(alloc, primary, request, 1, true)?;
+    Ok((effect, marked, kept))
 }
 
 #[test]
 fn roles_change(rt: HostRuntime) -> Result<(), Fail> {
     let mut a = member(rt.alloc(), "rs")?;
     let mut b = member(rt.alloc(), "rs")?;
-    a.follow(rt.alloc(), &b, 0)?;
-    assert!(rt; !a.takes_writes());
-    b.elect(rt.alloc(), Some(&a), 2, 0)?;
-    assert!(rt; b.takes_writes());
+    let roles = change_roles(rt.alloc(), &mut a, &mut b)?;
+    assert!(rt; roles == (false, true));
     assert_eq!(rt; b.place(), 0);
     Ok(())
+}
+
+/// The first member follows the second, which is elected: whether each takes writes.
+fn change_roles(alloc: Global, a: &mut Member, b: &mut Member) -> Result<(bool, bool), Memory> {
+    a.follow(alloc, b, 0)?;
+    let first = a.takes_writes();
+    b.elect(alloc, Some(a), 2, 0)?;
+    Ok((first, b.takes_writes()))
 }
 
 /// Fifty letters.
@@ -106,8 +158,8 @@ fn a_set_at_its_bound_answers_hello(rt: HostRuntime) -> Result<(), Fail> {
     let set = LETTERS.repeat(rt.alloc(), 299_997)?;
     let mut member = member(rt.alloc(), set.as_str())?;
     let request = hello(rt.alloc())?;
-    let answered = member.answer(rt.alloc(), &request, 2, 0, 0, true)?;
-    assert_eq!(rt; answered.bytes.len(), 15_000_290);
+    let (_, _, length) = answer(rt.alloc(), &mut member, &request, 0, true)?;
+    assert_eq!(rt; length, 15_000_290);
     Ok(())
 }
 

@@ -17,20 +17,28 @@ fn request(alloc: Global, stream: u64, id: i32, purpose: Purpose) -> Request {
     }
 }
 
-#[test]
-fn one_insert_is_written(rt: HostRuntime) -> Result<(), Fail> {
-    let told = Told {
-        seed: Host::parse(rt.alloc(), "alone")?,
+/// What is told of one insert.
+fn told(alloc: Global) -> Result<Told, Fail> {
+    let seed = Host::parse(alloc, "alone")?;
+    let host = Host::parse(alloc, "alone")?;
+    Ok(Told {
+        seed,
         reply: TopoEvent::Broken {
-            host: Host::parse(rt.alloc(), "alone")?,
+            host,
             generation: None,
         },
-        hello: request(rt.alloc(), 1, 1, Purpose::Check { host: 0 }),
-        greeting: request(rt.alloc(), 2, 2, Purpose::Greeting { host: 0, conn: 1 }),
-        insert: request(rt.alloc(), 2, 3, Purpose::Command { op: 0 }),
-    };
+        hello: request(alloc, 1, 1, Purpose::Check { host: 0 }),
+        greeting: request(alloc, 2, 2, Purpose::Greeting { host: 0, conn: 1 }),
+        insert: request(alloc, 2, 3, Purpose::Command { op: 0 }),
+    })
+}
+
+#[test]
+fn one_insert_is_written(rt: HostRuntime) -> Result<(), Fail> {
+    let told = told(rt.alloc())?;
     let trail = one_insert_written(rt.alloc(), told)?;
-    assert_eq!(rt; trail.steps.len(), 16);
-    assert_eq!(rt; trail.requests.len(), 3);
+    let written = (trail.steps.len(), trail.requests.len());
+    drop(trail);
+    assert!(rt; written == (16, 3));
     Ok(())
 }

@@ -68,18 +68,28 @@ fn counts(wired: &WiredTrail<ScriptNet>) -> [usize; 7] {
     ]
 }
 
+/// What a client comes to on three streams, the first of which ends at once: what a turn on it finds, whether the second, which
+/// is closed, is in use then, and what a turn on the third finds.
+fn streams(
+    wired: &mut WiredTrail<ScriptNet>,
+    alloc: Global,
+) -> (Option<Pulled>, Option<bool>, Option<Pulled>) {
+    let ended = dial_and_turn(wired, alloc, StreamUse::Check { host: 0 });
+    let shut = dial_and_close(wired, alloc, StreamUse::Conn { host: 0, conn: 1 });
+    let dry = dial_and_turn(wired, alloc, StreamUse::Conn { host: 0, conn: 2 });
+    (ended, shut, dry)
+}
+
 #[test]
 fn streams_come_and_go(rt: HostRuntime) -> Result<(), Fail> {
     let mut wired = fresh(rt.alloc(), 3)?;
-    assert!(rt; counts(&wired) == [1, 0, 0, 0, 0, 0, 0]);
-    let ended = dial_and_turn(&mut wired, rt.alloc(), StreamUse::Check { host: 0 });
-    assert!(rt; matches!(ended, Some(Pulled::Memory)));
-    let shut = dial_and_close(&mut wired, rt.alloc(), StreamUse::Conn { host: 0, conn: 1 });
-    assert!(rt; matches!(shut, Some(false)));
-    let dry = dial_and_turn(&mut wired, rt.alloc(), StreamUse::Conn { host: 0, conn: 2 });
-    assert!(rt; matches!(dry, Some(Pulled::Memory)));
+    let counted = counts(&wired);
+    let (ended, shut, dry) = streams(&mut wired, rt.alloc());
+    let are_dry = matches!(ended, Some(Pulled::Memory)) && matches!(dry, Some(Pulled::Memory));
     // nothing was read: three dials and three closes, two of them at the end
-    let finished = wired.finish();
-    assert_eq!(rt; finished.net.events().len(), 6);
+    let events = wired.finish().net.events().len();
+    assert!(rt; counted == [1, 0, 0, 0, 0, 0, 0]);
+    assert!(rt; are_dry && shut == Some(false));
+    assert_eq!(rt; events, 6);
     Ok(())
 }

@@ -49,13 +49,23 @@ fn assert_events(rt: &impl Abort, events: &[NetEvent], names: &[&str]) {
 fn source_gives_its_bytes_and_fails_at_its_call(rt: HostRuntime) -> Result<(), Fail> {
     let alloc = rt.alloc();
     let mut source = SliceSource::new(Bytes::take(alloc, &[1, 2, 3])?, numbers(alloc, &[2])?);
-    let mut piece = [0; 2];
-    assert_eq!(rt; source.read(&mut piece), SourceCame::Got(2));
-    assert_eq!(rt; piece, [1, 2]);
-    assert_eq!(rt; source.read(&mut piece), SourceCame::Failed);
-    assert_eq!(rt; source.read(&mut piece), SourceCame::Got(1));
-    assert_eq!(rt; piece, [3, 2]);
-    assert_eq!(rt; source.read(&mut piece), SourceCame::End);
+    let mut pieces = [[0; 2]; 4];
+    let came = [
+        source.read(&mut pieces[0]),
+        source.read(&mut pieces[1]),
+        source.read(&mut pieces[2]),
+        source.read(&mut pieces[3]),
+    ];
+    drop(source);
+    assert!(rt;
+        came == [
+            SourceCame::Got(2),
+            SourceCame::Failed,
+            SourceCame::Got(1),
+            SourceCame::End,
+        ]
+    );
+    assert!(rt; pieces == [[1, 2], [0, 0], [3, 0], [0, 0]]);
     Ok(())
 }
 
@@ -63,11 +73,21 @@ fn source_gives_its_bytes_and_fails_at_its_call(rt: HostRuntime) -> Result<(), F
 fn sink_takes_its_size_and_fails_at_its_call(rt: HostRuntime) -> Result<(), Fail> {
     let alloc = rt.alloc();
     let mut sink = VecSink::new(alloc, 5, numbers(alloc, &[2])?)?;
-    assert_eq!(rt; sink.write(&[1, 2, 3]), SinkTook::Took(3));
-    assert_eq!(rt; sink.write(&[4]), SinkTook::Failed);
-    assert_eq!(rt; sink.write(&[4, 5, 6]), SinkTook::Took(2));
-    assert_eq!(rt; sink.write(&[6]), SinkTook::Failed);
-    assert_eq!(rt; sink.written(), [1, 2, 3, 4, 5].as_slice());
+    let took = [
+        sink.write(&[1, 2, 3]),
+        sink.write(&[4]),
+        sink.write(&[4, 5, 6]),
+        sink.write(&[6]),
+    ];
+    assert!(rt;
+        took == [
+            SinkTook::Took(3),
+            SinkTook::Failed,
+            SinkTook::Took(2),
+            SinkTook::Failed,
+        ]
+    );
+    assert!(rt; sink.written() == [1, 2, 3, 4, 5].as_slice());
     Ok(())
 }
 
@@ -75,10 +95,13 @@ fn sink_takes_its_size_and_fails_at_its_call(rt: HostRuntime) -> Result<(), Fail
 fn all_is_written_or_a_front_of_it(rt: HostRuntime) -> Result<(), Fail> {
     let alloc = rt.alloc();
     let mut sink = VecSink::new(alloc, 5, numbers(alloc, &[])?)?;
-    assert_eq!(rt; write_all(&mut sink, &[1, 2, 3]), Ok(()));
-    assert_eq!(rt; write_all(&mut sink, &[]), Ok(()));
-    assert_eq!(rt; write_all(&mut sink, &[4, 5, 6]), Err(SinkFault));
-    assert_eq!(rt; sink.written(), [1, 2, 3, 4, 5].as_slice());
+    let written = [
+        write_all(&mut sink, &[1, 2, 3]),
+        write_all(&mut sink, &[]),
+        write_all(&mut sink, &[4, 5, 6]),
+    ];
+    assert!(rt; written == [Ok(()), Ok(()), Err(SinkFault)]);
+    assert!(rt; sink.written() == [1, 2, 3, 4, 5].as_slice());
     Ok(())
 }
 
@@ -123,27 +146,47 @@ fn log_keeps_room(rt: HostRuntime) -> Result<(), Fail> {
     Ok(())
 }
 
+/// A net whose streams give these bytes, so many at a read, and end or not; it fails at the calls of these numbers.
+fn net_of(
+    alloc: Global,
+    streams: &[(&[u8], u32, bool)],
+    fails: &[u64],
+) -> Result<ScriptNet, AllocError> {
+    let mut plans = Rows::new(alloc);
+    push_plans(alloc, &mut plans, streams)?;
+    Ok(ScriptNet::new(alloc, plans, numbers(alloc, fails)?))
+}
+
+fn push_plans(
+    alloc: Global,
+    plans: &mut Rows<StreamPlan>,
+    streams: &[(&[u8], u32, bool)],
+) -> Result<(), AllocError> {
+    for (bytes, most, ends) in streams {
+        plans.push(plan(alloc, bytes, *most, *ends)?)?;
+    }
+    Ok(())
+}
+
 #[test]
 fn net_follows_its_plan(rt: HostRuntime) -> Result<(), Fail> {
-    let alloc = rt.alloc();
-    let mut plans = Rows::new(alloc);
-    plans.push(plan(alloc, b"abcde", 2, true)?)?;
-    let mut net = ScriptNet::new(alloc, plans, numbers(alloc, &[])?);
+    let mut net = net_of(rt.alloc(), &[(b"abcde", 2, true)], &[])?;
     let Dialed::Stream(stream) = net.dial("a:1") else {
-        panic!(rt; "no stream");
+        return Err(Fail::from("no stream"));
     };
-    assert_eq!(rt; stream, 0);
-    assert_eq!(rt; net.write(stream, b"hello"), Wrote::Took(5));
-    let mut piece = [0; 4];
-    assert_eq!(rt; net.read(stream, &mut piece), Came::Got(2));
-    assert_eq!(rt; piece, *b"ab\0\0");
-    assert_eq!(rt; net.read(stream, &mut piece[..1]), Came::Got(1));
-    assert_eq!(rt; piece, *b"cb\0\0");
-    assert_eq!(rt; net.read(stream, &mut piece), Came::Got(2));
-    assert_eq!(rt; piece, *b"de\0\0");
-    assert_eq!(rt; net.read(stream, &mut piece), Came::End);
+    let took = net.write(stream, b"hello");
+    let mut pieces = [[0; 4]; 4];
+    let came = [
+        net.read(stream, &mut pieces[0]),
+        net.read(stream, &mut pieces[1][..1]),
+        net.read(stream, &mut pieces[2]),
+        net.read(stream, &mut pieces[3]),
+    ];
     net.close(stream);
-    assert_eq!(rt; net.dial("b:2"), Dialed::Failed);
+    let dialled = net.dial("b:2");
+    assert!(rt; (took, dialled) == (Wrote::Took(5), Dialed::Failed));
+    assert!(rt; came == [Came::Got(2), Came::Got(1), Came::Got(2), Came::End]);
+    assert!(rt; pieces == [*b"ab\0\0", *b"c\0\0\0", *b"de\0\0", [0; 4]]);
     assert_events(
         &rt,
         net.events(),
@@ -156,22 +199,23 @@ fn net_follows_its_plan(rt: HostRuntime) -> Result<(), Fail> {
 
 #[test]
 fn net_fails_at_its_calls(rt: HostRuntime) -> Result<(), Fail> {
-    let alloc = rt.alloc();
-    let mut plans = Rows::new(alloc);
-    plans.push(plan(alloc, b"first", 9, true)?)?;
-    plans.push(plan(alloc, b"xy", 0, false)?)?;
-    let mut net = ScriptNet::new(alloc, plans, numbers(alloc, &[1, 3, 5])?);
-    assert_eq!(rt; net.dial("a:1"), Dialed::Failed);
+    let streams: [(&[u8], u32, bool); 2] = [(b"first", 9, true), (b"xy", 0, false)];
+    let mut net = net_of(rt.alloc(), &streams, &[1, 3, 5])?;
+    let failed = net.dial("a:1");
     let Dialed::Stream(stream) = net.dial("a:1") else {
-        panic!(rt; "no stream");
+        return Err(Fail::from("no stream"));
     };
+    let took = net.write(stream, b"hello");
     let mut piece = [0; 4];
-    assert_eq!(rt; net.write(stream, b"hello"), Wrote::Failed);
-    assert_eq!(rt; net.read(stream, &mut piece), Came::Got(1));
-    assert_eq!(rt; net.read(stream, &mut piece), Came::Failed);
-    assert_eq!(rt; net.read(stream, &mut piece), Came::Got(1));
-    assert_eq!(rt; piece, *b"y\0\0\0");
-    assert_eq!(rt; net.read(stream, &mut piece), Came::NotYet);
+    let came = [
+        net.read(stream, &mut piece),
+        net.read(stream, &mut piece),
+        net.read(stream, &mut piece),
+        net.read(stream, &mut piece),
+    ];
+    assert!(rt; (failed, took) == (Dialed::Failed, Wrote::Failed));
+    assert!(rt; came == [Came::Got(1), Came::Failed, Came::Got(1), Came::NotYet]);
+    assert!(rt; piece == *b"y\0\0\0");
     assert_events(
         &rt,
         net.events(),
@@ -184,20 +228,21 @@ fn net_fails_at_its_calls(rt: HostRuntime) -> Result<(), Fail> {
 
 #[test]
 fn turns_send_and_receive(rt: HostRuntime) -> Result<(), Fail> {
-    let alloc = rt.alloc();
-    let mut plans = Rows::new(alloc);
-    plans.push(plan(alloc, b"reply", 3, true)?)?;
-    let mut net = ScriptNet::new(alloc, plans, numbers(alloc, &[])?);
+    let mut net = net_of(rt.alloc(), &[(b"reply", 3, true)], &[])?;
     let Dialed::Stream(stream) = net.dial("a:1") else {
-        panic!(rt; "no stream");
+        return Err(Fail::from("no stream"));
     };
-    assert_eq!(rt; send_some(&mut net, stream, b"request", 2), Wrote::Took(5));
-    let mut reply = Buffer::new(alloc);
-    assert_eq!(rt; receive_some(&mut net, stream, &mut reply, 9), Came::Got(3));
-    assert_eq!(rt; receive_some(&mut net, stream, &mut reply, 1), Came::Got(1));
-    assert_eq!(rt; receive_some(&mut net, stream, &mut reply, 1), Came::Got(1));
-    assert_eq!(rt; receive_some(&mut net, stream, &mut reply, 1), Came::End);
-    assert_eq!(rt; reply.as_slice(), b"reply".as_slice());
+    let took = send_some(&mut net, stream, b"request", 2);
+    let mut reply = Buffer::new(rt.alloc());
+    let came = [
+        receive_some(&mut net, stream, &mut reply, 9),
+        receive_some(&mut net, stream, &mut reply, 1),
+        receive_some(&mut net, stream, &mut reply, 1),
+        receive_some(&mut net, stream, &mut reply, 1),
+    ];
+    assert!(rt; took == Wrote::Took(5));
+    assert!(rt; came == [Came::Got(3), Came::Got(1), Came::Got(1), Came::End]);
+    assert!(rt; reply.as_slice() == b"reply".as_slice());
     Ok(())
 }
 

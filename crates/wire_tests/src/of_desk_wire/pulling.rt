@@ -31,6 +31,13 @@ struct Taken {
     stop: Option<Stop>,
 }
 
+impl Taken {
+    /// Whether these are the ids; how often the next message was not there yet, and what stopped it.
+    fn told(&self, ids: &[i32]) -> (bool, u32, Option<Stop>) {
+        (self.ids.as_slice() == ids, self.waits, self.stop)
+    }
+}
+
 /// Pulls five times, or until something stops it.
 fn take_five<N: Net>(alloc: Global, net: &mut N, wire: &mut Wire) -> Result<Taken, Fail>
     requires live { wire.old.is_shut ≡ false }
@@ -89,9 +96,11 @@ fn a_message_in_two_pieces(rt: HostRuntime) -> Result<(), Fail> {
             out: Vec::new(alloc),
         };
         let taken = take_from(alloc, &mut net)?;
-        assert_eq!(rt; taken.ids.as_slice(), [7].as_slice(), "{cut}");
-        assert_eq!(rt; (taken.waits, taken.stop), (4, None), "{cut}");
-        assert_eq!(rt; net.given, 45, "{cut}");
+        assert_eq!(rt;
+            (taken.told([7].as_slice()), net.given),
+            ((true, 4, None), 45),
+            "{cut}"
+        );
     }
     Ok(())
 }
@@ -101,8 +110,7 @@ fn a_message_in_pieces_of_any_size(rt: HostRuntime) -> Result<(), Fail> {
     let alloc = rt.alloc();
     for most in 1..46 {
         let taken = take_from(alloc, &mut script(alloc, REPLY, most, false, 0)?)?;
-        assert_eq!(rt; taken.ids.as_slice(), [7].as_slice(), "{most}");
-        assert_eq!(rt; (taken.waits, taken.stop), (4, None), "{most}");
+        assert_eq!(rt; taken.told([7].as_slice()), (true, 4, None), "{most}");
     }
     Ok(())
 }
@@ -112,8 +120,11 @@ fn three_messages_that_came_at_once(rt: HostRuntime) -> Result<(), Fail> {
     let alloc = rt.alloc();
     for most in [1, 2, 7, 4096] {
         let taken = take_from(alloc, &mut script(alloc, THREE, most, true, 0)?)?;
-        assert_eq!(rt; taken.ids.as_slice(), [7, 8, 9].as_slice(), "{most}");
-        assert_eq!(rt; (taken.waits, taken.stop), (0, Some(Stop::End)), "{most}");
+        assert_eq!(rt;
+            taken.told([7, 8, 9].as_slice()),
+            (true, 0, Some(Stop::End)),
+            "{most}"
+        );
     }
     Ok(())
 }
@@ -137,16 +148,17 @@ fn no_byte_behind_a_message_is_read(rt: HostRuntime) -> Result<(), Fail> {
         return Err(Fail::from("no stream"));
     };
     let mut wire = Wire::new(alloc, stream);
-    let Pulled::Whole(first) = wire.pull(alloc, &mut net) else {
+    let Pulled::Whole(message) = wire.pull(alloc, &mut net) else {
         return Err(Fail::from("no message"));
     };
-    assert_eq!(rt; (first.id, first.length), (7, 45));
-    assert_eq!(rt; given(net.events()), 45);
-    let Pulled::Whole(second) = wire.pull(alloc, &mut net) else {
+    let first = (message.id, message.length, given(net.events()));
+    drop(message);
+    let Pulled::Whole(message) = wire.pull(alloc, &mut net) else {
         return Err(Fail::from("no message"));
     };
-    assert_eq!(rt; (second.id, second.length), (8, 26));
-    assert_eq!(rt; given(net.events()), 71);
+    let second = (message.id, message.length, given(net.events()));
+    assert_eq!(rt; first, (7, 45, 45));
+    assert_eq!(rt; second, (8, 26, 71));
     Ok(())
 }
 
@@ -175,13 +187,8 @@ fn a_header_out_of_order_is_refused_at_its_sixteen_bytes(rt: HostRuntime) -> Res
         for most in [1, 16] {
             let mut net = script(alloc, bytes, most, false, 0)?;
             let taken = take_from(alloc, &mut net)?;
-            assert_eq!(rt; taken.ids.len(), 0, "{fault:?}");
-            assert_eq!(rt;
-                (taken.waits, taken.stop),
-                (0, Some(Stop::Bad(fault))),
-                "{fault:?}"
-            );
-            assert_eq!(rt; given(net.events()), 16, "{fault:?}");
+            let came = (taken.told(&[]), given(net.events()));
+            assert_eq!(rt; came, ((true, 0, Some(Stop::Bad(fault))), 16));
         }
     }
     Ok(())
@@ -206,8 +213,7 @@ fn a_stream_that_ends_after_each_byte(rt: HostRuntime) -> Result<(), Fail> {
             return Err(Fail::from("a front"));
         };
         let taken = take_from(alloc, &mut script(alloc, front, 4096, true, 0)?)?;
-        assert_eq!(rt; taken.ids.len(), 0, "{count}");
-        assert_eq!(rt; (taken.waits, taken.stop), (0, Some(Stop::End)), "{count}");
+        assert_eq!(rt; taken.told(&[]), (true, 0, Some(Stop::End)), "{count}");
     }
     Ok(())
 }
@@ -219,13 +225,8 @@ fn a_stream_that_fails_between_two_pieces(rt: HostRuntime) -> Result<(), Fail> {
     for (fails, came) in [(2, 0), (3, 16)] {
         let mut net = script(alloc, REPLY, 4096, false, fails)?;
         let taken = take_from(alloc, &mut net)?;
-        assert_eq!(rt; taken.ids.len(), 0, "{fails}");
-        assert_eq!(rt;
-            (taken.waits, taken.stop),
-            (0, Some(Stop::Fault)),
-            "{fails}"
-        );
-        assert_eq!(rt; given(net.events()), came, "{fails}");
+        let found = (taken.told(&[]), given(net.events()));
+        assert_eq!(rt; found, ((true, 0, Some(Stop::Fault)), came));
     }
     Ok(())
 }

@@ -114,7 +114,7 @@ impl<N: Net, P: Picker, L: Listener, D: Dice, C: LaneClock, J: Opening> Client<N
     fn turn<R: Wait>(&self, rt: &R, lane: u32, clock: &C, waited: Waits) -> Turned {
         let Some(asked) = self.turns.ask(rt, lane, waited) else {
             let turned = self.take_turn(rt, lane, clock, waited);
-            clock.note_free();
+            self.free(rt, clock);
             return turned;
         };
         'waiting: for _ in rt.forever() {
@@ -126,7 +126,7 @@ impl<N: Net, P: Picker, L: Listener, D: Dice, C: LaneClock, J: Opening> Client<N
         unreachable!()
     }
 
-    /// Takes the turns of all lanes that ask, then lets others in, and wakes the lanes of those turns that sleep.
+    /// Takes the turns of all lanes that ask and of those that come first in lines, then lets others in, and wakes the lanes of those turns.
     fn take_turns<R: Wait>(&self, rt: &R, clock: &C) {
         let mut sleeping: u64 = 0;
         'rounds: for _ in 0..ROUNDS {
@@ -138,22 +138,59 @@ impl<N: Net, P: Picker, L: Listener, D: Dice, C: LaneClock, J: Opening> Client<N
         }
         self.turns.leave(rt);
         self.turns.wake(sleeping);
-        clock.note_free();
+        self.free(rt, clock);
     }
 
-    /// Takes the turns of these lanes, a bit for each; those of them that sleep.
+    /// Takes the turns of those of these lanes that ask, a bit for each, and behind each the turns of lanes that come first in lines by it;
+    /// the lanes of those turns that sleep.
     fn take_round<R: Wait>(&self, rt: &R, asking: u64, clock: &C) -> u64 {
         let mut sleeping: u64 = 0;
         'taking: for place in 0..PLACES {
-            if asking >> place & 1 == 1 {
+            if asking >> place & 1 == 1 && self.turns.is_asked(rt, place) {
                 let waited = self.turns.waited(rt, place);
                 let turned = self.take_turn(rt, place + 1, clock, waited);
-                if self.turns.answer(rt, place, turned) {
-                    sleeping |= 1 << place;
-                }
+                sleeping |= self.answer(rt, place, turned);
+                sleeping |= self.take_lines(rt, clock);
             }
         }
         sleeping
+    }
+
+    /// Takes the turns of lanes that stand first in lines and may go on; those of them that sleep. Of a turn that came to nothing the lane
+    /// does not learn.
+    fn take_lines<R: Wait>(&self, rt: &R, clock: &C) -> u64 {
+        let mut sleeping: u64 = 0;
+        'taking: for _ in 0..PLACES {
+            let Some(place) = self.turns.take_due(rt) else {
+                break;
+            };
+            let waited = self.turns.waited(rt, place);
+            let turned = self.take_turn(rt, place.saturating_add(1), clock, waited);
+            if !turned.is_in_line() {
+                sleeping |= self.answer(rt, place, turned);
+            }
+        }
+        sleeping
+    }
+
+    /// Has the lane at a place learn what its turn came to; its bit, where it sleeps.
+    fn answer<R: Wait>(&self, rt: &R, place: u32, turned: Turned) -> u64 {
+        if place < PLACES && self.turns.answer(rt, place, turned) {
+            1 << place
+        } else {
+            0
+        }
+    }
+
+    /// The client is unlocked: wakes whoever is to go on.
+    fn free<R: Wait>(&self, rt: &R, clock: &C) {
+        'waking: for _ in 0..PLACES {
+            match self.turns.take_due(rt) {
+                Some(place) => clock.note_line(place.saturating_add(1)),
+                None => break,
+            }
+        }
+        clock.note_free();
     }
 
     /// Drives the checks of so many servers, each in a hold of its own.
@@ -176,22 +213,24 @@ impl<N: Net, P: Picker, L: Listener, D: Dice, C: LaneClock, J: Opening> Client<N
         let place = desk.steps().len();
         let sight = desk.turn(self.alloc, lane, moment);
         let told = told_behind(desk.steps(), place);
-        let waits = tell_step(clock, lane, sight, told, waited);
-        let due = match sight {
-            Some(Sight::Wait { .. }) => desk.count_due(moment),
-            _ => 0,
-        };
-        let next = match sight {
-            Some(Sight::Answered) => desk.next_of(lane),
-            _ => None,
-        };
-        MutexGuard::unlock(desk);
-        Turned {
+        let mut turned = Turned {
             sight,
-            waits,
-            due,
-            next,
+            waits: tell_step(clock, lane, sight, told, waited),
+            due: 0,
+            next: None,
+        };
+        self.turns.follow(rt, lane, turned.awaited(), told);
+        match sight {
+            Some(Sight::Wait { .. }) => {
+                turned.due = desk.count_due(moment);
+            }
+            Some(Sight::Answered) => {
+                turned.next = desk.next_of(lane);
+            }
+            _ => {}
         }
+        MutexGuard::unlock(desk);
+        turned
     }
 
     fn count_due<R: Wait>(&self, rt: &R, clock: &C) -> u32 {
@@ -204,9 +243,11 @@ impl<N: Net, P: Picker, L: Listener, D: Dice, C: LaneClock, J: Opening> Client<N
         let moment = clock.now();
         let place = desk.steps().len();
         desk.check(self.alloc, host, moment);
-        tell_check(clock, told_behind(desk.steps(), place));
+        let told = told_behind(desk.steps(), place);
+        tell_check(clock, told);
+        self.turns.follow_check(rt, told);
         MutexGuard::unlock(desk);
-        clock.note_free();
+        self.free(rt, clock);
     }
 }
 

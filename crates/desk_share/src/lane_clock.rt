@@ -17,12 +17,13 @@ pub enum Waits {
 /// A clock by which lanes rest. Its type may end a lane's rest as soon as something happened that the lane's command may wait for: what
 /// came of each step is told to it ahead of the client's next step. As the functions stand here a rest lasts its time.
 pub trait LaneClock: Clock {
-    /// What the lane's command waits for behind its step; None where it goes on or was answered. Lane 0 stands for checks, which wait for
-    /// nothing that is told.
+    /// What the lane's command waits for behind its step; None where it goes on or was answered. Another thread may have taken the step
+    /// while the lane rests: where the command waits for something else now, or no more, that rest is to end. Lane 0 stands for checks,
+    /// which wait for nothing that is told.
     fn note_step(&self, _lane: u32, _waits: Option<Waits>) {}
 
-    /// The line of the host's pool may have moved: a connection came back or was closed, or whoever stood first has left it.
-    fn note_line(&self, _host: u32) {}
+    /// The lane stands first in the line that its command waits in, and may go on: its rest is to end.
+    fn note_line(&self, _lane: u32) {}
 
     /// The topology may be another one, or a pool was made ready.
     fn note_servers(&self) {}

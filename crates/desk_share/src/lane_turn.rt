@@ -15,8 +15,10 @@ pub struct LaneTurn {
 /// What the lane and whoever takes its turn share.
 #[derive(Clone, Copy, Debug, Drop)]
 struct TurnState {
-    /// For what its command waited behind the turn before.
+    /// For what its command waited behind the last turn.
     waited: Waits,
+    /// Whether the lane asks for it.
+    is_asked: bool,
     /// What came of it.
     turned: Option<Turned>,
     /// Whether the lane is to take turns itself.
@@ -31,6 +33,7 @@ impl LaneTurn {
             taken: AtomicU64::new(0),
             state: Mutex::new(TurnState {
                 waited: Waits::Server,
+                is_asked: false,
                 turned: None,
                 is_called: false,
                 sleeps: false,
@@ -39,15 +42,25 @@ impl LaneTurn {
         }
     }
 
-    /// The lane is about to ask for it.
-    pub fn begin<R: Wait>(&self, rt: &R, waited: Waits) {
+    /// The lane asks for it; false where it was taken already, while the lane rested.
+    pub fn begin<R: Wait>(&self, rt: &R, waited: Waits) -> bool {
         let mut state = self.state.lock(rt);
-        state.waited = waited;
-        state.turned = None;
         state.is_called = false;
+        if state.turned.is_some() {
+            return false;
+        }
+        state.waited = waited;
+        state.is_asked = true;
+        true
     }
 
-    /// For what the lane's command waited behind the turn before.
+    /// Whether the lane asks for it.
+    pub fn is_asked<R: Wait>(&self, rt: &R) -> bool {
+        let state = self.state.lock(rt);
+        state.is_asked
+    }
+
+    /// For what the lane's command waited behind the last turn.
     pub fn waited<R: Wait>(&self, rt: &R) -> Waits {
         let state = self.state.lock(rt);
         state.waited
@@ -56,6 +69,8 @@ impl LaneTurn {
     /// It was taken, and came to that. Whether the lane sleeps.
     pub fn answer<R: Wait>(&self, rt: &R, turned: Turned) -> bool {
         let mut state = self.state.lock(rt);
+        state.waited = turned.waits;
+        state.is_asked = false;
         state.turned = Some(turned);
         let sleeps = state.sleeps;
         drop(state);

@@ -24,6 +24,7 @@ mod lane_clock;
 mod lane_turn;
 mod lanes;
 pub mod laws;
+mod lines;
 mod opening;
 mod patience;
 mod telling;

@@ -20,14 +20,14 @@ pub fn tell_step<C: LaneClock>(
         Some(Sight::Wait { .. }) => clock.note_step(lane, Some(waits)),
         _ => clock.note_step(lane, None),
     }
-    tell_moves(clock, told);
+    tell_servers(clock, told);
     waits
 }
 
-/// Tells the clock what entries of a check's step may change for the commands that wait.
+/// Tells the clock what entries of a check's step may change for the commands that wait for a server.
 pub fn tell_check<C: LaneClock>(clock: &C, told: &[Step]) {
     clock.note_step(0, None);
-    tell_moves(clock, told);
+    tell_servers(clock, told);
 }
 
 /// What a command waits for behind an entry of its own.
@@ -43,24 +43,11 @@ fn waits_behind(entry: &Entry, waits: Waits) -> Waits {
     }
 }
 
-/// Tells the clock of each line that may have moved, once where entries of one follow each other, and of the servers.
-fn tell_moves<C: LaneClock>(clock: &C, told: &[Step]) {
-    let mut last = None;
+fn tell_servers<C: LaneClock>(clock: &C, told: &[Step]) {
     for step in told {
         if is_of_servers(&step.entry) {
             clock.note_servers();
         }
-        let host = line_of(&step.entry);
-        if host.is_some() && host != last {
-            last = host;
-            tell_line(clock, host);
-        }
-    }
-}
-
-fn tell_line<C: LaneClock>(clock: &C, host: Option<u32>) {
-    if let Some(host) = host {
-        clock.note_line(host);
     }
 }
 
@@ -73,20 +60,4 @@ fn is_of_servers(entry: &Entry) -> bool {
             ..
         } | Entry::PoolReady { .. }
     )
-}
-
-/// The host in the line of whose pool another command may be first behind the entry, or the first one may go on.
-fn line_of(entry: &Entry) -> Option<u32> {
-    match entry {
-        Entry::PoolReady { host }
-        | Entry::PoolClear { host }
-        | Entry::PoolShut { host }
-        | Entry::Lent { host, .. }
-        | Entry::Dialled { host, .. }
-        | Entry::Settled { host, .. }
-        | Entry::NotLent { host, .. }
-        | Entry::CheckedIn { host, .. }
-        | Entry::ConnShut { host, .. } => Some(*host),
-        _ => None,
-    }
 }

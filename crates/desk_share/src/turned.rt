@@ -13,3 +13,18 @@ pub struct Turned {
     /// The lane's next command, where this one was answered.
     pub next: Option<u32>,
 }
+
+impl Turned {
+    /// What the lane's command waits for, if it waits.
+    pub fn awaited(&self) -> Option<Waits> {
+        match self.sight {
+            Some(Sight::Wait { .. }) => Some(self.waits),
+            _ => None,
+        }
+    }
+
+    /// Whether the command waits in a line.
+    pub fn is_in_line(&self) -> bool {
+        matches!(self.awaited(), Some(Waits::Line { .. }))
+    }
+}

@@ -1,10 +1,12 @@
 use crate::lane_clock::Waits;
 use crate::lane_turn::LaneTurn;
+use crate::lines::Lines;
 use crate::turned::Turned;
+use desk_trail::Step;
 use std::alloc::Global;
 use std::hint::spin_loop;
-use std::sync::Wait;
 use std::sync::atomic::{AtomicU64, Ordering};
+use std::sync::{Mutex, Wait};
 use std::thread;
 
 /// How many lanes have a place.
@@ -17,8 +19,8 @@ const TRIES: u32 = 130;
 
 const PAUSES: u32 = 4;
 
-/// The turns that lanes ask for. One thread at a time takes those of all that ask (flat combining), so that no lane has to wake before the
-/// next turn is taken.
+/// The turns of lanes. One thread at a time takes those of all that ask (flat combining), and that of a lane that rests in the line of a
+/// pool when it is first there, so that no lane has to wake before the next turn is taken.
 #[derive(Drop)]
 pub struct Turns {
     /// 1 while a thread takes turns.
@@ -27,6 +29,8 @@ pub struct Turns {
     asking: AtomicU64,
     /// By lane, from the first one.
     lanes: Vec<LaneTurn>,
+    /// The lanes that have a place here and wait in lines.
+    lines: Mutex<Lines>,
 }
 
 impl Turns {
@@ -36,6 +40,7 @@ impl Turns {
             entered: AtomicU64::new(0),
             asking: AtomicU64::new(0),
             lanes: places_of(alloc, count),
+            lines: Mutex::new(Lines::new(alloc)),
         }
     }
 
@@ -46,8 +51,9 @@ impl Turns {
             return None;
         }
         let turn = self.lanes.get(place as usize)?;
-        turn.begin(rt, waited);
-        self.asking.fetch_or(1 << place, Ordering::SeqCst);
+        if turn.begin(rt, waited) {
+            self.asking.fetch_or(1 << place, Ordering::SeqCst);
+        }
         Some(turn)
     }
 
@@ -77,12 +83,41 @@ impl Turns {
                 .is_ok()
     }
 
-    /// The lanes that ask, a bit for each; they ask no more.
+    /// The lanes that may ask, a bit for each.
     pub fn take_asking(&self) -> u64 {
         self.asking.swap(0, Ordering::SeqCst)
     }
 
-    /// For what the command of the lane at a place waited behind its last turn.
+    /// Whether the lane at a place asks: its turn was not taken since, while it rested.
+    pub fn is_asked<R: Wait>(&self, rt: &R, place: u32) -> bool {
+        match self.lanes.get(place as usize) {
+            Some(turn) => turn.is_asked(rt),
+            None => false,
+        }
+    }
+
+    /// Follows a step of the lane's command: for what that waits now, if it waits, and which entries the step appended.
+    pub fn follow<R: Wait>(&self, rt: &R, lane: u32, waits: Option<Waits>, told: &[Step]) {
+        let mut lines = self.lines.lock(rt);
+        if lane as usize <= self.lanes.len() {
+            lines.stand(lane, waits);
+        }
+        lines.follow(told);
+    }
+
+    /// Follows a step of a check, which appended these entries.
+    pub fn follow_check<R: Wait>(&self, rt: &R, told: &[Step]) {
+        let mut lines = self.lines.lock(rt);
+        lines.follow(told);
+    }
+
+    /// The place of a lane that stands first in a line and may go on, once.
+    pub fn take_due<R: Wait>(&self, rt: &R) -> Option<u32> {
+        let mut lines = self.lines.lock(rt);
+        lines.take_due()?.checked_sub(1)
+    }
+
+    /// For what the command of the lane at a place waits since its last turn.
     pub fn waited<R: Wait>(&self, rt: &R, place: u32) -> Waits {
         match self.lanes.get(place as usize) {
             Some(turn) => turn.waited(rt),

@@ -42,8 +42,8 @@ impl<'a, R: time::Clock + Sockets + Wait> LaneClock for MachineClock<'a, R> {
         self.watch.note_step(self.rt, lane, waits);
     }
 
-    fn note_line(&self, host: u32) {
-        self.watch.note_line(self.rt, host);
+    fn note_line(&self, lane: u32) {
+        self.watch.note_line(self.rt, lane);
     }
 
     fn note_servers(&self) {

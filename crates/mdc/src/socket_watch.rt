@@ -31,8 +31,6 @@ pub struct SocketWatch {
     last: Mutex<Option<Arc<Connection>>>,
     /// By lane.
     lanes: Vec<Lane>,
-    /// The lanes whose commands stand in lines of pools, in the order in which they came.
-    lines: Mutex<Vec<Standing>>,
     /// The lanes whose rests are to end, a bit for each, the first one's the lowest.
     to_wake: AtomicU64,
 }
@@ -42,13 +40,6 @@ pub struct SocketWatch {
 struct Lane {
     awaited: Mutex<Awaited>,
     woken: Condvar,
-}
-
-/// A lane whose command stands in the line of a host's pool.
-#[derive(Clone, Copy, Debug, PartialEq, Eq, Drop)]
-struct Standing {
-    host: u32,
-    lane: u32,
 }
 
 /// What those that rest share.
@@ -90,7 +81,6 @@ impl SocketWatch {
             ended: Condvar::new(),
             last: Mutex::new(None),
             lanes: lanes_of(alloc),
-            lines: Mutex::new(Vec::new(alloc)),
             to_wake: AtomicU64::new(0),
         }
     }
@@ -119,50 +109,28 @@ impl SocketWatch {
         }
     }
 
-    /// Notes what a lane's command waits for: for bytes on what the net noted last. Of lane 0 forgets what the net noted.
+    /// Notes what a lane's command waits for: for bytes on what the net noted last. Where it rested for something else its rest is to end.
+    /// Of lane 0 forgets what the net noted.
     pub fn note_step<R: Wait>(&self, rt: &R, lane: u32, waits: Option<Waits>) {
         let last = self.take_last(rt);
-        self.stand(rt, lane, waits);
         let awaited = match (waits, last) {
             (Some(Waits::Stream), Some(connection)) => Awaited::Bytes(connection),
             (Some(Waits::Line { .. }), _) => Awaited::Line,
             (Some(Waits::Server), _) => Awaited::Servers,
-            _ => Awaited::Time,
+            (Some(Waits::Stream), None) => Awaited::Time,
+            (None, _) => Awaited::Nothing,
         };
-        if let Some(lane) = self.lanes.get(lane as usize) {
-            let mut place = lane.awaited.lock(rt);
-            *place = awaited;
+        let Some(place) = self.lanes.get(lane as usize) else {
+            return;
+        };
+        if place.note(rt, awaited) {
+            self.to_wake(lane);
         }
     }
 
-    /// Has a lane stand in the line that its command waits in, behind those that came before, and in no other.
-    fn stand<R: Wait>(&self, rt: &R, lane: u32, waits: Option<Waits>) {
-        let mut lines = self.lines.lock(rt);
-        let place = lines.iter().position(|standing| standing.lane == lane);
-        match (place, waits) {
-            (Some(place), Some(Waits::Line { host })) => {
-                lines[place].host = host;
-            }
-            (Some(place), _) => {
-                lines.remove(place);
-            }
-            (None, Some(Waits::Line { host })) => {
-                // One for whom there is no memory rests its time.
-                let _ = lines.push(Standing { host, lane });
-            }
-            (None, _) => {}
-        }
-    }
-
-    /// The rest of the lane that stands first in the line of the host's pool is to end.
-    pub fn note_line<R: Wait>(&self, rt: &R, host: u32) {
-        let lines = self.lines.lock(rt);
-        let first = lines.iter().find(|standing| standing.host == host);
-        let lane = first.map(|standing| standing.lane);
-        drop(lines);
-        if let Some(lane) = lane {
-            self.end_rest(rt, lane, false);
-        }
+    /// The lane's rest is to end, where its command waits in a line.
+    pub fn note_line<R: Wait>(&self, rt: &R, lane: u32) {
+        self.end_rest(rt, lane, false);
     }
 
     /// The rests of all lanes whose commands wait for a server are to end.
@@ -173,14 +141,19 @@ impl SocketWatch {
     }
 
     fn end_rest<R: Wait>(&self, rt: &R, lane: u32, is_for_server: bool) {
-        let Some(place) = lane.checked_sub(1) else {
+        let Some(place) = self.lanes.get(lane as usize) else {
             return;
         };
-        let Some(lane) = self.lanes.get(lane as usize) else {
-            return;
-        };
-        if place < 64 && lane.end_rest(rt, is_for_server) {
-            self.to_wake.fetch_or(1 << place, Ordering::SeqCst);
+        if place.end_rest(rt, is_for_server) {
+            self.to_wake(lane);
+        }
+    }
+
+    fn to_wake(&self, lane: u32) {
+        if let Some(place) = lane.checked_sub(1) {
+            if place < 64 {
+                self.to_wake.fetch_or(1 << place, Ordering::SeqCst);
+            }
         }
     }
 
@@ -264,6 +237,17 @@ impl Lane {
         }
     }
 
+    /// Notes what it waits for; whether it may rest in a line, and that rest is to end.
+    fn note<R: Wait>(&self, rt: &R, awaited: Awaited) -> bool {
+        let mut place = self.awaited.lock(rt);
+        let may_rest = matches!(*place, Awaited::Line) && !matches!(awaited, Awaited::Line);
+        *place = match awaited {
+            Awaited::Servers | Awaited::Time if may_rest => Awaited::Nothing,
+            awaited => awaited,
+        };
+        may_rest
+    }
+
     /// Its rest is to end, where it waits for a server, or for its turn in a line; whether it does.
     fn end_rest<R: Wait>(&self, rt: &R, is_for_server: bool) -> bool {
         let mut awaited = self.awaited.lock(rt);
@@ -290,14 +274,14 @@ impl Lane {
         }
     }
 
-    /// Rests until it is woken, at most for so long.
+    /// Rests until it waits for nothing any more or for bytes, at most for so long.
     fn rest<R: Clock + Wait>(&self, rt: &R, most: Duration) {
         let awaited = self.awaited.lock(rt);
         let _ = self.woken.wait_timeout_while(
             rt,
             awaited,
             most,
-            |awaited| !matches!(awaited, Awaited::Nothing),
+            |awaited| !matches!(awaited, Awaited::Nothing | Awaited::Bytes(_)),
         );
     }
 }

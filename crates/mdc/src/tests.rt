@@ -79,9 +79,9 @@ fn an_answer_ends_the_rest_of_its_lane(rt: HostRuntime) -> Result<(), Fail> {
     Ok(())
 }
 
-/// The rest of the lane that stands first in a line ends where the line moves.
+/// The rest of a lane that is first in a line ends where its turn was taken, and it waits for something else.
 #[test]
-fn a_line_that_moves_ends_the_rest_of_its_first_lane(rt: HostRuntime) -> Result<(), Fail> {
+fn a_turn_that_was_taken_ends_the_rest_of_its_lane(rt: HostRuntime) -> Result<(), Fail> {
     let began = Instant::now(&rt)?;
     let watch = SocketWatch::new(rt.alloc(), &rt);
     let clock = MachineClock::new(&rt, &watch);
@@ -90,10 +90,15 @@ fn a_line_that_moves_ends_the_rest_of_its_first_lane(rt: HostRuntime) -> Result<
     let change = || {
         // Until then it rests, if the machine is not too busy.
         thread::sleep(&rt, Duration::from_millis(100));
-        clock.note_line(2);
+        clock.note_step(64, None);
         clock.note_free();
     };
     thread::join(&rt, rest, change);
+    assert!(rt; began.elapsed(&rt)? < Duration::from_secs(30));
+    // The rest of one that is told to go on ends, too.
+    clock.note_step(64, Some(Waits::Line { host: 2 }));
+    clock.note_line(64);
+    clock.rest_of(64, 40_000_000);
     assert!(rt; began.elapsed(&rt)? < Duration::from_secs(30));
     Ok(())
 }

@@ -18,8 +18,8 @@ use std::alloc::Global;
 use std::marker::{Model, PhantomData};
 use trail_laws::answers::{a_command_without_an_answer_goes_on, a_finished_command_stays_so};
 
-/// The greatest number of a lane.
-const LANES: usize = 64;
+/// The greatest number of a lane (own); lanes are counted from 1.
+pub const LANES: usize = 64;
 
 /// A client's desk with its listeners and its dice, and how far each lane is. Contracts see the desk. What its type says of that stays
 /// true whoever drives it: one thread that owns it, or several behind a lock.

@@ -33,7 +33,7 @@ mod turns;
 
 pub use client::Client;
 pub use desk_hooks::Ended;
-pub use driven::DrivenDesk;
+pub use driven::{DrivenDesk, LANES};
 pub use lane_clock::{LaneClock, Waits};
 pub use lanes::{run_lanes, share};
 pub use opening::Opening;

@@ -1,3 +1,4 @@
+use crate::driven::LANES;
 use crate::lane_clock::Waits;
 use crate::lane_turn::LaneTurn;
 use crate::lines::Lines;
@@ -10,7 +11,7 @@ use std::sync::{Mutex, Wait};
 use std::thread;
 
 /// How many lanes have a place.
-pub const PLACES: u32 = 64;
+pub const PLACES: u32 = LANES as u32;
 
 /// How often a lane that waits tries before it sleeps: so often with some pauses between two tries, and then with other threads let run.
 const QUICK_TRIES: u32 = 30;

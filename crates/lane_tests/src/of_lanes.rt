@@ -6,7 +6,7 @@ use desk_share::LaneClock;
 use drv_events::Hooks;
 use effect_count::RequestIndex;
 use member_hall::{Act, Hall, Planned};
-use net_link::{Gate, Phase, VecSink};
+use net_link::{Gate, OpenGate, Phase, VecSink};
 use server_pick::KeepAll;
 use shell_top::{Ended, run};
 use soak_plan::SeedDice;
@@ -111,6 +111,15 @@ impl<'a, R: Clock> Gate for HeldCommand<'a, R> {
     }
 }
 
+/// What is run, over three members to which that is to happen.
+#[derive(Clone, Copy)]
+struct Given<'a> {
+    script: &'a str,
+    /// Options of the connection string.
+    options: &'a str,
+    plan: &'a [Planned],
+}
+
 /// What a run left.
 #[derive(Drop)]
 struct Left {
@@ -123,8 +132,7 @@ fn under<R: Threads + Wait + Sync, C: LaneClock + Send + Sync, G: Gate + Sync>(
     rt: &R,
     alloc: Global,
     clock: &C,
-    script: &str,
-    plan: &[Planned],
+    given: Given<'_>,
     gate: &G,
 ) -> Result<Left, Memory> {
     let Setting {
@@ -132,7 +140,7 @@ fn under<R: Threads + Wait + Sync, C: LaneClock + Send + Sync, G: Gate + Sync>(
         mut script,
         mut out,
         hall,
-    } = setting_of(alloc, script, "", plan)?;
+    } = setting_of(alloc, given.script, given.options, given.plan)?;
     let picker = Box::new(alloc, KeepAll)?;
     let ended = run(
         rt,
@@ -180,8 +188,11 @@ fn held_lane(rt: HostRuntime) -> Result<(), Fail> {
         &rt,
         rt.alloc(),
         &RealClock::new(&rt),
-        TWO_LANES,
-        &ELECTION,
+        Given {
+            script: TWO_LANES,
+            options: "",
+            plan: &ELECTION,
+        },
         &gate,
     )?;
     assert!(rt; gate.is_answered.load(Ordering::SeqCst));
@@ -228,8 +239,11 @@ fn twelve_lanes_under_forty_schedules(rt: HostRuntime) -> Result<(), Fail> {
             &rt,
             alloc,
             &RealClock::new(&rt),
-            script.as_str(),
-            &[],
+            Given {
+                script: script.as_str(),
+                options: "",
+                plan: &[],
+            },
             &gate,
         )?;
         assert!(rt; !gate.has_given_up.load(Ordering::SeqCst));
@@ -237,5 +251,27 @@ fn twelve_lanes_under_forty_schedules(rt: HostRuntime) -> Result<(), Fail> {
         assert!(rt; left.out.written().ends_with(b"done 48 ok 48\n"));
         assert_eq!(rt; greatest_count(alloc, &left, commands)?, 1);
     }
+    Ok(())
+}
+
+/// Twelve lanes go on over two connections, for which most of them have to wait.
+#[test]
+fn twelve_lanes_over_two_connections(rt: HostRuntime) -> Result<(), Fail> {
+    let alloc = rt.alloc();
+    let script = inserts(alloc)?;
+    let left = under(
+        &rt,
+        alloc,
+        &RealClock::new(&rt),
+        Given {
+            script: script.as_str(),
+            options: "&maxPoolSize=2",
+            plan: &[],
+        },
+        &OpenGate,
+    )?;
+    assert_eq!(rt; left.ended.status.code(), 0);
+    assert!(rt; left.out.written().ends_with(b"done 48 ok 48\n"));
+    assert_eq!(rt; greatest_count(alloc, &left, LANES * EACH)?, 1);
     Ok(())
 }

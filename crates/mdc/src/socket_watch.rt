@@ -1,6 +1,6 @@
 use crate::connection::Connection;
 use crate::poller::{Poller, put};
-use desk_share::Waits;
+use desk_share::{LANES, Waits};
 use mio::net::TcpStream;
 use mio::{Registry, Waker};
 use std::alloc::Global;
@@ -9,9 +9,6 @@ use std::net::Net as Sockets;
 use std::sync::atomic::{AtomicU64, Ordering};
 use std::sync::{Arc, Condvar, Mutex, Wait};
 use std::time::{Clock, Duration};
-
-/// The greatest number of a lane.
-const LANES: usize = 64;
 
 /// Ends rests early: the net and the clock of a run share it.
 ///
@@ -151,7 +148,7 @@ impl SocketWatch {
 
     fn to_wake(&self, lane: u32) {
         if let Some(place) = lane.checked_sub(1) {
-            if place < 64 {
+            if place < LANES as u32 {
                 self.to_wake.fetch_or(1 << place, Ordering::SeqCst);
             }
         }
@@ -163,7 +160,7 @@ impl SocketWatch {
             return;
         }
         let lanes = self.to_wake.swap(0, Ordering::SeqCst);
-        for place in 0..64_u32 {
+        for place in 0..LANES as u32 {
             if lanes >> place & 1 == 1 {
                 if let Some(lane) = self.lanes.get(place as usize + 1) {
                     lane.woken.notify_one();

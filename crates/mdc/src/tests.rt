@@ -1,7 +1,7 @@
 use crate::machine_clock::MachineClock;
 use crate::socket_net::SocketNet;
 use crate::socket_watch::SocketWatch;
-use desk_share::{LaneClock, Waits};
+use desk_share::{LANES, LaneClock, Waits};
 use mio::net::TcpStream;
 use net_link::{Came, Dialed, Net, Wrote};
 use std::io::{Read, Write};
@@ -85,20 +85,21 @@ fn a_turn_that_was_taken_ends_the_rest_of_its_lane(rt: HostRuntime) -> Result<()
     let began = Instant::now(&rt)?;
     let watch = SocketWatch::new(rt.alloc(), &rt);
     let clock = MachineClock::new(&rt, &watch);
-    clock.note_step(64, Some(Waits::Line { host: 2 }));
-    let rest = || clock.rest_of(64, 40_000_000);
+    let lane = LANES as u32;
+    clock.note_step(lane, Some(Waits::Line { host: 2 }));
+    let rest = || clock.rest_of(lane, 40_000_000);
     let change = || {
         // Until then it rests, if the machine is not too busy.
         thread::sleep(&rt, Duration::from_millis(100));
-        clock.note_step(64, None);
+        clock.note_step(lane, None);
         clock.note_free();
     };
     thread::join(&rt, rest, change);
     assert!(rt; began.elapsed(&rt)? < Duration::from_secs(30));
     // The rest of one that is told to go on ends, too.
-    clock.note_step(64, Some(Waits::Line { host: 2 }));
-    clock.note_line(64);
-    clock.rest_of(64, 40_000_000);
+    clock.note_step(lane, Some(Waits::Line { host: 2 }));
+    clock.note_line(lane);
+    clock.rest_of(lane, 40_000_000);
     assert!(rt; began.elapsed(&rt)? < Duration::from_secs(30));
     Ok(())
 }

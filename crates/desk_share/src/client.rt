@@ -1,6 +1,7 @@
 use crate::Opening;
 use crate::driven::DrivenDesk;
 use crate::lane_clock::{LaneClock, Waits};
+use crate::lane_gate::LaneGate;
 use crate::patience::Patience;
 use crate::telling::{tell_check, tell_step};
 use crate::turned::Turned;
@@ -8,7 +9,7 @@ use crate::turns::{PLACES, Turns};
 use desk_core::Sight;
 use desk_trail::Step;
 use drv_events::Listener;
-use net_link::{Clock, Dice, Gate, Net, Phase};
+use net_link::{Clock, Dice, Net, Phase};
 use server_pick::Picker;
 use std::alloc::Global;
 use std::sync::atomic::{AtomicU64, Ordering};
@@ -22,6 +23,8 @@ pub struct Client<N: Net, P: Picker, L: Listener, D: Dice, C: Clock, J: Opening>
     desk: Mutex<DrivenDesk<N, P, L, D, C, J>>,
     turns: Turns,
     lanes: u32,
+    // whether the gate that they pass is open
+    is_open: bool,
     // how many of them ended
     ended: AtomicU64,
 }
@@ -30,32 +33,40 @@ pub struct Client<N: Net, P: Picker, L: Listener, D: Dice, C: Clock, J: Opening>
 const ROUNDS: u32 = 4;
 
 impl<N: Net, P: Picker, L: Listener, D: Dice, C: LaneClock, J: Opening> Client<N, P, L, D, C, J> {
-    /// A client of a desk, for so many lanes. Where memory is wanting each lane takes its own turns.
+    /// A client of a desk, for so many lanes, whose gate is open or is passed around each command. Where memory is wanting each lane takes
+    /// its own turns.
     pub fn new(
         alloc: Global,
         desk: DrivenDesk<N, P, L, D, C, J>,
         lanes: u32,
+        is_open: bool,
     ) -> Client<N, P, L, D, C, J> {
         Client {
             alloc,
             desk: Mutex::new(desk),
             turns: Turns::new(alloc, lanes),
             lanes,
+            is_open,
             ended: AtomicU64::new(0),
         }
     }
 
     /// Runs the lane's commands in order, until each is answered or the desk stopped. The lane is one of those that the client was made
-    /// for, counted from 1, and runs once. The gate is passed ahead of each command's first step and behind its last, outside the lock.
-    pub fn lane<R: Wait, G: Gate>(&self, rt: &R, lane: u32, clock: &C, gate: &G) {
+    /// for, counted from 1, and runs once. The gate is passed ahead of each command's first step and behind its last, outside the lock, where
+    /// it is not open.
+    pub fn lane<R: Wait, G: LaneGate>(&self, rt: &R, lane: u32, clock: &C, gate: &G) {
         let mut next = self.next_of(rt, lane);
         'commands: for _ in rt.forever() {
             let Some(op) = next else {
                 break;
             };
-            gate.pass(lane, op, Phase::Before);
-            next = self.drive(rt, lane, clock);
-            gate.pass(lane, op, Phase::After);
+            if self.is_open {
+                next = self.drive(rt, lane, clock);
+            } else {
+                gate.pass(lane, op, Phase::Before);
+                next = self.drive(rt, lane, clock);
+                gate.pass(lane, op, Phase::After);
+            }
         }
         self.ended.fetch_add(1, Ordering::SeqCst);
         clock.note_end();
@@ -81,12 +92,14 @@ impl<N: Net, P: Picker, L: Listener, D: Dice, C: LaneClock, J: Opening> Client<N
             desk,
             turns: _,
             lanes: _,
+            is_open: _,
             ended: _,
         } = self;
         desk.into_inner()
     }
 
-    /// Steps the lane's next command until it is answered, or the desk stopped; the one that comes behind it.
+    /// Steps the lane's next command until it is answered, or the desk stopped; the one that comes behind it. Where the gate is open it goes
+    /// on with that one, until none comes.
     fn drive<R: Wait>(&self, rt: &R, lane: u32, clock: &C) -> Option<u32> {
         let mut patience = Patience::new();
         let mut waited = Waits::Server;
@@ -104,6 +117,7 @@ impl<N: Net, P: Picker, L: Listener, D: Dice, C: LaneClock, J: Opening> Client<N
                     self.check_each(rt, due, clock);
                     clock.rest_of(lane, patience.next_rest(until));
                 }
+                Some(Sight::Answered) if self.is_open && next.is_some() => {}
                 Some(Sight::Answered) | None => return next,
             }
         }
@@ -141,19 +155,28 @@ impl<N: Net, P: Picker, L: Listener, D: Dice, C: LaneClock, J: Opening> Client<N
         self.free(rt, clock);
     }
 
-    /// Takes the turns of those of these lanes that ask, a bit for each, and behind each the turns of lanes that come first in lines by it;
-    /// the lanes of those turns that sleep.
+    /// Takes the turns of those of these lanes that ask, a bit for each; the lanes of the turns that were taken that sleep.
     fn take_round<R: Wait>(&self, rt: &R, asking: u64, clock: &C) -> u64 {
         let mut sleeping: u64 = 0;
         'taking: for place in 0..PLACES {
             if asking >> place & 1 == 1 && self.turns.is_asked(rt, place) {
-                let waited = self.turns.waited(rt, place);
-                let turned = self.take_turn(rt, place + 1, clock, waited);
-                sleeping |= self.answer(rt, place, turned);
-                sleeping |= self.take_lines(rt, clock);
+                sleeping |= self.take_asked(rt, place, clock);
             }
         }
         sleeping
+    }
+
+    /// Takes the turn of the lane at a place; where that answered its command and the gate is open, the first one of its next command, too;
+    /// and then those of lanes that come first in lines by it. The lanes of those turns that sleep.
+    fn take_asked<R: Wait>(&self, rt: &R, place: u32, clock: &C) -> u64 {
+        let lane = place.saturating_add(1);
+        let waited = self.turns.waited(rt, place);
+        let mut turned = self.take_turn(rt, lane, clock, waited);
+        if self.is_open && turned.next.is_some() {
+            turned = self.take_turn(rt, lane, clock, turned.waits);
+        }
+        let sleeping = self.answer(rt, place, turned);
+        sleeping | self.take_lines(rt, clock)
     }
 
     /// Takes the turns of lanes that stand first in lines and may go on; those of them that sleep. Of a turn that came to nothing the lane

@@ -6,9 +6,10 @@ use crate::Opening;
 use crate::client::Client;
 use crate::driven::DrivenDesk;
 use crate::lane_clock::LaneClock;
+use crate::lane_gate::LaneGate;
 use desk_hooks::{Ended, HookedDesk};
 use drv_events::Listener;
-use net_link::{Dice, Gate, Net};
+use net_link::{Dice, Net};
 use server_pick::Picker;
 use std::alloc::Global;
 use std::marker::Brand;
@@ -25,7 +26,7 @@ pub fn share<
     L: Listener,
     D: Dice + Send,
     C: LaneClock + Send + Sync,
-    G: Gate + Sync,
+    G: LaneGate + Sync,
 >(
     rt: &R,
     alloc: Global,
@@ -49,7 +50,7 @@ fn share_opened<
     L: Listener,
     D: Dice + Send,
     C: LaneClock + Send + Sync,
-    G: Gate + Sync,
+    G: LaneGate + Sync,
     J: Opening + Send + Sync,
 >(
     rt: &R,
@@ -79,7 +80,7 @@ pub fn run_lanes<
     D: Dice + Send,
     C: LaneClock + Send + Sync,
     J: Opening + Send + Sync,
-    G: Gate + Sync,
+    G: LaneGate + Sync,
 >(
     rt: &R,
     alloc: Global,
@@ -88,7 +89,7 @@ pub fn run_lanes<
     clock: &C,
     gate: &G,
 ) -> DrivenDesk<N, P, L, D, C, J> {
-    let client = Client::new(alloc, desk, lanes);
+    let client = Client::new(alloc, desk, lanes, gate.is_open());
     run_threads(rt, &client, lanes, clock, gate);
     client.into_desk()
 }
@@ -103,7 +104,7 @@ fn run_threads<
     D: Dice + Send,
     C: LaneClock + Send + Sync,
     J: Opening + Send + Sync,
-    G: Gate + Sync,
+    G: LaneGate + Sync,
 >(rt: &R, client: &Client<N, P, L, D, C, J>, lanes: u32, clock: &C, gate: &G) {
     thread::scope(thread::scope_env(), rt, |scope| {
         for lane in 0..lanes {

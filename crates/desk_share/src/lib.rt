@@ -21,6 +21,7 @@
 mod client;
 mod driven;
 mod lane_clock;
+mod lane_gate;
 mod lane_turn;
 mod lanes;
 pub mod laws;
@@ -35,6 +36,7 @@ pub use client::Client;
 pub use desk_hooks::Ended;
 pub use driven::{DrivenDesk, LANES};
 pub use lane_clock::{LaneClock, Waits};
+pub use lane_gate::LaneGate;
 pub use lanes::{run_lanes, share};
 pub use opening::Opening;
 pub use patience::Patience;

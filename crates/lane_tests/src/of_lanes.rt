@@ -2,7 +2,7 @@
 use crate::real_clock::RealClock;
 use crate::setting::{Setting, setting_of};
 use bson_doc::Memory;
-use desk_share::LaneClock;
+use desk_share::{LaneClock, LaneGate};
 use drv_events::Hooks;
 use effect_count::RequestIndex;
 use member_hall::{Act, Hall, Planned};
@@ -81,6 +81,8 @@ impl<'a, R: Clock> Gate for HeldLane<'a, R> {
     }
 }
 
+impl<'a, R: Clock> LaneGate for HeldLane<'a, R> {}
+
 /// Holds one command until so many of the others were answered.
 #[derive(Drop)]
 struct HeldCommand<'a, R: Clock> {
@@ -111,6 +113,8 @@ impl<'a, R: Clock> Gate for HeldCommand<'a, R> {
     }
 }
 
+impl<'a, R: Clock> LaneGate for HeldCommand<'a, R> {}
+
 /// What is run, over three members to which that is to happen.
 #[derive(Clone, Copy)]
 struct Given<'a> {
@@ -128,7 +132,7 @@ struct Left {
 }
 
 /// Runs a script under a gate.
-fn under<R: Threads + Wait + Sync, C: LaneClock + Send + Sync, G: Gate + Sync>(
+fn under<R: Threads + Wait + Sync, C: LaneClock + Send + Sync, G: LaneGate + Sync>(
     rt: &R,
     alloc: Global,
     clock: &C,

@@ -5,7 +5,7 @@ use crate::real_clock::RealClock;
 use crate::setting::{Setting, setting_of};
 use crate::shared_count::SharedCount;
 use bson_doc::Memory;
-use desk_share::LaneClock;
+use desk_share::{LaneClock, LaneGate};
 use drv_events::{Hooks, Listener};
 use member_hall::Hall;
 use net_link::{Gate, OpenGate, Phase, VecSink};
@@ -51,6 +51,8 @@ impl<'a, R: Clock> Gate for HeldWatch<'a, R> {
         self.has_given_up.store(true, Ordering::SeqCst);
     }
 }
+
+impl<'a, R: Clock> LaneGate for HeldWatch<'a, R> {}
 
 /// Two listeners that a run is given, and what each of them counts.
 #[derive(Drop)]
@@ -116,7 +118,7 @@ struct Left {
 }
 
 /// Runs the two finds under a gate. No listener heard anything yet.
-fn under<R: Threads + Wait + Sync, C: LaneClock + Send + Sync, G: Gate + Sync>(
+fn under<R: Threads + Wait + Sync, C: LaneClock + Send + Sync, G: LaneGate + Sync>(
     rt: &R,
     alloc: Global,
     clock: &C,

@@ -26,11 +26,11 @@ use conn_uri::Settings;
 use desk_core::Finished;
 use desk_hooks::{Ended as Left, HookedDesk};
 use desk_share::laws::a_new_desk_begins;
-use desk_share::{DrivenDesk, LaneClock, Opening, run_lanes};
+use desk_share::{DrivenDesk, LaneClock, LaneGate, Opening, run_lanes};
 use desk_trail::Trail;
 use drv_events::laws::all_are_counted;
 use drv_events::{Hooks, Listener};
-use net_link::{Dice, Gate, Net, Sink, Source, write_all};
+use net_link::{Dice, Net, Sink, Source, write_all};
 use run_words::{Task, WordStop, read_words};
 use script_text::{ScriptRead, read_script};
 use server_pick::Picker;
@@ -44,8 +44,9 @@ use trail_tally::{Tally, fresh_tallies};
 ///
 /// `run URI`: reads the script, runs its commands over the deployment of the connection string, and writes a line for each and a last
 /// one that counts them. A script that names two lanes or more has a thread for each lane, and commands of one lane run one after another;
-/// any other is run on this thread, in its order. The gate is passed ahead of each command and behind it. The words are judged before the
-/// script is read, and all of the script before anything is dialled. The report is written behind the client's end.
+/// any other is run on this thread, in its order. The gate is passed ahead of each command and behind it; lanes with threads of their own
+/// do not pass one that is open. The words are judged before the script is read, and all of the script before anything is dialled. The
+/// report is written behind the client's end.
 ///
 /// `soak SEED N`: runs the commands that the seed gives over members of a replica set that are played in memory, to which happens
 /// what the seed gives, and sums up in seven lines. Script, net, clock, dice and gate stay as they are; the seed gives its own.
@@ -58,7 +59,7 @@ pub fn run<
     N: Net + Send,
     C: LaneClock + Send + Sync,
     D: Dice + Send,
-    G: Gate + Sync,
+    G: LaneGate + Sync,
 >(
     rt: &R,
     alloc: Global,
@@ -143,7 +144,7 @@ fn run_by<
     L: Listener,
     D: Dice + Send,
     C: LaneClock + Send + Sync,
-    G: Gate + Sync,
+    G: LaneGate + Sync,
 >(
     context: Context<'_, R, C, G>,
     words: &Rows<Text>,
@@ -214,7 +215,7 @@ fn run_script<
     L: Listener,
     D: Dice + Send,
     C: LaneClock + Send + Sync,
-    G: Gate + Sync,
+    G: LaneGate + Sync,
 >(
     context: Context<'_, R, C, G>,
     settings: Settings,
@@ -252,7 +253,7 @@ fn run_commands<
     L: Listener,
     D: Dice + Send,
     C: LaneClock + Send + Sync,
-    G: Gate + Sync,
+    G: LaneGate + Sync,
 >(
     context: Context<'_, R, C, G>,
     settings: Settings,
@@ -331,7 +332,7 @@ fn run_desk<
     L: Listener,
     D: Dice + Send,
     C: LaneClock + Send + Sync,
-    G: Gate + Sync,
+    G: LaneGate + Sync,
     J: Opening + Send + Sync,
 >(
     context: Context<'_, R, C, G>,
@@ -391,7 +392,7 @@ fn in_lanes<
     L: Listener,
     D: Dice + Send,
     C: LaneClock + Send + Sync,
-    G: Gate + Sync,
+    G: LaneGate + Sync,
     J: Opening + Send + Sync,
 >(
     context: &Context<'_, R, C, G>,

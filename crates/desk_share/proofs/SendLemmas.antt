@@ -120,4 +120,4 @@ module _ (N : RattleType) (n : Net.Ghosts N.Denot) (send_n : IsSend N) where
 
         pub client_sync : IsSync (Client.the_row N P L D C J n p l d k o)
         client_sync = declared_sync (Client.the_type N P L D C J n p l d k o)
-            (search (crosses, sendable) depth 60 fits 20000, (search (driven_send, crosses, sendable) depth 60 fits 20000, (search (crosses, sendable) depth 60 fits 20000, (search sendable, (search (crosses, sendable) depth 60 fits 20000, tt)))))
+            (search (crosses, sendable) depth 60 fits 20000, (search (driven_send, crosses, sendable) depth 60 fits 20000, (search (crosses, sendable) depth 60 fits 20000, (search sendable, (search sendable, (search (crosses, sendable) depth 60 fits 20000, tt))))))

@@ -1,8 +1,10 @@
 ghost use Rattle.std.specs.Prelude.{◌≡◌, ◌≤◌, ◌<◌, ◌++◌, length, Err, IfOk, OnOk, IfErr};
+ghost use Rattle.std.specs.List.{AllByRecursion};
 ghost use Rattle.bson_doc.specs.Documents.{depth_of};
 ghost use Rattle.bson_doc.specs.wire.Limits.{most_bytes, most_levels};
 ghost use Rattle.bson_doc.specs.wire.Spelling.{Spells};
 ghost use Rattle.bson_doc.specs.wire.Spelled.{spelled};
+ghost use Rattle.bson_wire.specs.Written.{ElementSpells};
 
 use crate::EncodeFault;
 use crate::limits::MOST_LEVELS;
@@ -14,6 +16,8 @@ use bson_doc::Document;
 pub fn append(bytes: Vec<u8>, doc: &Document) -> Result<Vec<u8>, EncodeFault>
     ensures ok { IfOk result (λ all. all.items ≡ bytes.items ++ spelled doc.now) }
     ensures spells { OnOk result (Spells (spelled doc.now) doc.now) }
+    // So does each of its elements spell its value, wherever enough levels are left: what holds the document may be written, too.
+    ensures known { OnOk result (AllByRecursion ElementSpells doc.now.elements) }
 
     // Each fault comes exactly where the document has it, unless memory runs out. A document with too many levels is
     // refused whatever the memory.

@@ -1,3 +1,4 @@
+pub mod Batches
 pub mod Commands
 pub mod Handshakes
 pub mod Ops

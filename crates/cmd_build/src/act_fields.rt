@@ -1,115 +1,122 @@
-//! What an act asks for: the fields that stand first in its command.
-ghost use Rattle.std.specs.Prelude.{◌≡◌, pos, true, [], ◌∷◌, IfOk, codes};
+//! What an act asks for: the fields that stand first in its command, as they are written.
+ghost use Rattle.std.specs.Prelude.{◌≡◌, ◌≤◌, ◌+◌, true, [], ◌∷◌, length, IfOk, OnOk, codes};
+ghost use Rattle.bson_build.specs.Writes.{Writes};
 ghost use Rattle.bson_doc.specs.Names.{HasNoZero};
-ghost use Rattle.bson_doc.specs.declared.value.Value.{Array, Doc};
-ghost use Rattle.bson_doc.specs.declared.value.Value.TheVariants.{Bool, Int32, Str};
+ghost use Rattle.bson_doc.specs.declared.value.Value.{Doc};
+ghost use Rattle.cmd_build.specs.Batches.{BeginsBatch, EndsBatch, find_fields};
 ghost use Rattle.cmd_build.specs.Commands.{act_fields, delete_statement, modification, update_statement};
 
-use crate::Memory;
 use crate::command::Act;
-use crate::parts::{array_of, text};
-use bson_doc::{Document, Value};
-use std::alloc::Global;
+use bson_build::{ElementWriter, EncodeFault};
+use bson_doc::Document;
 
-/// The document of an act's own fields.
-pub(crate) fn act_document(alloc: Global, coll: &str, act: &Act) -> Result<Document, Memory>
-    ensures { IfOk result (λ d. d.elements ≡ act_fields coll.now act.now) }
+/// An act's own fields.
+pub(crate) fn put_act(writer: &mut ElementWriter, coll: &str, act: &Act) -> Result<(), EncodeFault>
+    ensures writes { OnOk result (Writes writer.old writer.new (act_fields coll.now act.now)) }
 {
     match act {
-        Act::Insert { doc } => batch(alloc, coll, "insert", "documents", doc.copy(alloc)?),
+        Act::Insert { doc } => {
+            let list = begin_batch(writer, "insert", coll, "documents")?;
+            writer.document("0", doc)?;
+            end_batch(writer, list)
+        }
         Act::Update {
             filter,
             change,
             multi,
             upsert,
         } => {
-            let statement = update_statement(alloc, filter, change, *multi, *upsert)?;
-            batch(alloc, coll, "update", "updates", statement)
+            let list = begin_batch(writer, "update", coll, "updates")?;
+            put_update(writer, filter, change, *multi, *upsert)?;
+            end_batch(writer, list)
         }
         Act::Delete { filter, all } => {
-            let statement = delete_statement(alloc, filter, *all)?;
-            batch(alloc, coll, "delete", "deletes", statement)
+            let list = begin_batch(writer, "delete", coll, "deletes")?;
+            put_delete(writer, filter, *all)?;
+            end_batch(writer, list)
         }
-        Act::FindAndModify { filter, change } => find_and_modify(alloc, coll, filter, change),
-        Act::Find { filter, read: _ } => find(alloc, coll, filter),
+        Act::FindAndModify { filter, change } => {
+            writer.text("findAndModify", coll)?;
+            writer.document("query", filter)?;
+            put_modification(writer, change)
+        }
+        Act::Find { filter, read: _ } => put_find(writer, coll, filter),
     }
 }
 
-/// The fields of a write command with one statement, or one document.
-fn batch(
-    alloc: Global,
-    coll: &str,
+/// Begins a write command with one statement, or one document: the statement is written next, and then its end. The place of the list's
+/// total.
+fn begin_batch(
+    writer: &mut ElementWriter,
     name: &str,
+    coll: &str,
     list: &str,
-    statement: Document,
-) -> Result<Document, Memory>
+) -> Result<usize, EncodeFault>
     requires name { HasNoZero name.now }
     requires list { HasNoZero list.now }
-    ensures { IfOk result (λ d. d.elements ≡ (name.now, Str coll.now) ∷ (list.now, Array (Doc statement ∷ [])) ∷ (codes "ordered", Bool true) ∷ []) }
+    ensures begins { IfOk result (BeginsBatch name.now coll.now list.now writer.old writer.new) }
 {
-    let mut command = Document::new(alloc);
-    command.put(alloc, name, text(alloc, coll)?)?;
-    command.put(alloc, list, array_of(alloc, statement)?)?;
-    command.put(alloc, "ordered", Value::Bool(true))?;
-    Ok(command)
+    writer.text(name, coll)?;
+    writer.begin_array(list)
+}
+
+/// Ends the list of a write command whose total stands at that place.
+fn end_batch(writer: &mut ElementWriter, list: usize) -> Result<(), EncodeFault>
+    requires begun { list + 4 ≤ length writer.old }
+    ensures ends { OnOk result (EndsBatch list writer.old writer.new) }
+{
+    writer.end(list)?;
+    writer.truth("ordered", true)
 }
 
 /// One update statement.
-fn update_statement(
-    alloc: Global,
+fn put_update(
+    writer: &mut ElementWriter,
     filter: &Document,
     change: &Document,
     multi: bool,
     upsert: bool,
-) -> Result<Document, Memory>
-    ensures { IfOk result (λ d. d ≡ update_statement filter.now change.now multi upsert) }
+) -> Result<(), EncodeFault>
+    ensures writes { OnOk result (Writes writer.old writer.new ((codes "0", Doc (update_statement filter.now change.now multi upsert)) ∷ [])) }
 {
-    let mut statement = Document::new(alloc);
-    statement.put(alloc, "q", Value::Doc(filter.copy(alloc)?))?;
-    statement.put(alloc, "u", Value::Doc(change.copy(alloc)?))?;
-    statement.put(alloc, "multi", Value::Bool(multi))?;
-    statement.put(alloc, "upsert", Value::Bool(upsert))?;
-    Ok(statement)
+    let statement = writer.begin_document("0")?;
+    writer.document("q", filter)?;
+    writer.document("u", change)?;
+    writer.truth("multi", multi)?;
+    writer.truth("upsert", upsert)?;
+    writer.end(statement)
 }
 
 /// One delete statement.
-fn delete_statement(alloc: Global, filter: &Document, all: bool) -> Result<Document, Memory>
-    ensures { IfOk result (λ d. d ≡ delete_statement filter.now all) }
+fn put_delete(writer: &mut ElementWriter, filter: &Document, all: bool) -> Result<(), EncodeFault>
+    ensures writes { OnOk result (Writes writer.old writer.new ((codes "0", Doc (delete_statement filter.now all)) ∷ [])) }
 {
     let limit = if all { 0 } else { 1 };
-    let mut statement = Document::new(alloc);
-    statement.put(alloc, "q", Value::Doc(filter.copy(alloc)?))?;
-    statement.put(alloc, "limit", Value::Int32(limit))?;
-    Ok(statement)
+    let statement = writer.begin_document("0")?;
+    writer.document("q", filter)?;
+    writer.int32("limit", limit)?;
+    writer.end(statement)
 }
 
-/// The fields of a findAndModify.
-fn find_and_modify(
-    alloc: Global,
-    coll: &str,
-    filter: &Document,
+/// What a findAndModify does with the document.
+fn put_modification(
+    writer: &mut ElementWriter,
     change: &Option<Document>,
-) -> Result<Document, Memory>
-    ensures { IfOk result (λ d. d.elements ≡ (codes "findAndModify", Str coll.now) ∷ (codes "query", Doc filter.now) ∷ modification change.now ∷ []) }
+) -> Result<(), EncodeFault>
+    ensures writes { OnOk result (Writes writer.old writer.new (modification change.now ∷ [])) }
 {
-    let mut command = Document::new(alloc);
-    command.put(alloc, "findAndModify", text(alloc, coll)?)?;
-    command.put(alloc, "query", Value::Doc(filter.copy(alloc)?))?;
     match change {
-        Some(change) => command.put(alloc, "update", Value::Doc(change.copy(alloc)?))?,
-        None => command.put(alloc, "remove", Value::Bool(true))?,
+        Some(change) => writer.document("update", change),
+        None => writer.truth("remove", true),
     }
-    Ok(command)
 }
 
 /// The fields of a find of one document.
-fn find(alloc: Global, coll: &str, filter: &Document) -> Result<Document, Memory>
-    ensures { IfOk result (λ d. d.elements ≡ (codes "find", Str coll.now) ∷ (codes "filter", Doc filter.now) ∷ (codes "limit", Int32 (pos 1)) ∷ (codes "singleBatch", Bool true) ∷ []) }
+fn put_find(writer: &mut ElementWriter, coll: &str, filter: &Document) -> Result<(), EncodeFault>
+    ensures writes { OnOk result (Writes writer.old writer.new (find_fields coll.now filter.now)) }
 {
-    let mut command = Document::new(alloc);
-    command.put(alloc, "find", text(alloc, coll)?)?;
-    command.put(alloc, "filter", Value::Doc(filter.copy(alloc)?))?;
-    command.put(alloc, "limit", Value::Int32(1))?;
-    command.put(alloc, "singleBatch", Value::Bool(true))?;
-    Ok(command)
+    writer.text("find", coll)?;
+    writer.document("filter", filter)?;
+    writer.int32("limit", 1)?;
+    writer.truth("singleBatch", true)
 }

@@ -1,123 +1,150 @@
-ghost use Rattle.std.specs.Prelude.{◌≡◌, ◌++◌, IfOk, IfErr, IfSome, OnOk, Err, None, codes};
+ghost use Rattle.std.specs.Prelude.{◌≡◌, ◌≤◌, ◌++◌, IfOk, OnOk, codes};
 ghost use Rattle.std.specs.Option.{option_copied};
+ghost use Rattle.bson_build.specs.Writes.{WroteAll, Writes};
+ghost use Rattle.bson_wire.specs.Spelled.{spelled};
+ghost use Rattle.bson_wire.specs.Spelling.{Spells};
+ghost use Rattle.cmd_build.specs.Batches.{extra_fields, front_fields};
 ghost use Rattle.cmd_build.specs.Commands.{command_document, concern_of, given, number_of, preference_of, session_of, time_of};
-ghost use Rattle.cmd_build.specs.Sizes.{Tells, excess};
+ghost use Rattle.cmd_build.specs.Sizes.{IsWithin, levels_of_time};
 
-use crate::Memory;
-use crate::act_fields::act_document;
+use crate::act_fields::put_act;
 use crate::command::{Act, Command, is_write};
-use crate::extras::{Extras, Sizes};
-use crate::fault::BuildFault;
-use crate::parts::{db_of, majority, session, text};
+use crate::extras::Extras;
+use crate::parts::{UUID, db_of};
 use crate::preference::{preference_document, sent_mode, sent_tags};
-use crate::sizes::too_large;
-use bson_doc::{ClusterTime, Document, Lsid, Value};
+use bson_build::{ElementWriter, EncodeFault};
+use bson_doc::{ClusterTime, Lsid};
 use std::alloc::Global;
 
-/// What the command sends, from a client of that database, with these extras and the greatest cluster time that the client
-/// knows; a command that names a database of its own goes there.
+/// The bytes, and behind them the spelling of what the command sends, from a client of that database, with these extras and the greatest
+/// cluster time that the client knows; a command that names a database of its own goes there.
 ///
-/// `TooLarge` comes exactly where one of the command's documents has more bytes than `max_doc`, or else where the whole
-/// message has more than `max_message`; it names the first. It is decided ahead of all copying, whatever the memory.
-pub fn build(
+/// No document is made: each part is written from the command where it is to stand. The bytes are not copied where room was reserved, as
+/// many as [`measure`](crate::measure) says, which says too whether a server takes them.
+///
+/// # Errors
+///
+/// Memory is wanting, or a document of the command, the cluster time or the whole has more levels or bytes than a document may.
+pub fn append(
     alloc: Global,
+    bytes: Vec<u8>,
     command: &Command,
     db: &str,
     extras: &Extras<'_>,
     time: Option<&ClusterTime>,
-    sizes: Sizes,
-) -> Result<Document, BuildFault>
-    ensures built { IfOk result (λ d. d ≡ command_document command.now db.now extras.now (option_copied time.entry)) }
-    ensures fits { OnOk result (excess command.now db.now extras.now (option_copied time.entry) sizes ≡ None) }
-    ensures large { IfSome (excess command.now db.now extras.now (option_copied time.entry) sizes) (λ e. result ≡ Err (BuildFault.TooLarge e.size e.most)) }
-    ensures too_large { IfErr result (λ fault. Tells fault (excess command.now db.now extras.now (option_copied time.entry) sizes)) }
+) -> Result<Vec<u8>, EncodeFault>
+    ensures spelled { IfOk result (λ all. all.items ≡ bytes.items ++ spelled (command_document command.now db.now extras.now (option_copied time.entry))) }
+    ensures spells { IsWithin 90 command.now.act → levels_of_time (option_copied time.entry) ≤ 99 →
+        OnOk result (Spells (spelled (command_document command.now db.now extras.now (option_copied time.entry))) (command_document command.now db.now extras.now (option_copied time.entry))) }
 {
-    if let Some(fault) = too_large(command, db, extras, time, sizes) {
-        return Err(fault);
-    }
-    match document_of(alloc, command, db, extras, time) {
-        Ok(document) => Ok(document),
-        Err(_) => Err(BuildFault::Memory),
-    }
+    let mut writer = ElementWriter::new(alloc, bytes);
+    put_command(alloc, &mut writer, command, db, extras, time)?;
+    Ok(writer.into_bytes())
 }
 
-/// The document of a command that is not too large.
-fn document_of(
+/// The whole document of a command.
+fn put_command(
     alloc: Global,
+    writer: &mut ElementWriter,
     command: &Command,
     db: &str,
     extras: &Extras<'_>,
     time: Option<&ClusterTime>,
-) -> Result<Document, Memory>
-    ensures { IfOk result (λ d. d ≡ command_document command.now db.now extras.now (option_copied time.entry)) }
+) -> Result<(), EncodeFault>
+    ensures wrote { OnOk result (WroteAll writer.old writer.new (command_document command.now db.now extras.now (option_copied time.entry))) }
 {
-    let mut document = act_document(alloc, command.coll.as_str(), &command.act)?;
-    put_concern(alloc, &mut document, command)?;
-    document.put(alloc, "apiVersion", text(alloc, "1")?)?;
-    document.put(alloc, "$db", text(alloc, db_of(command, db))?)?;
-    put_preference(alloc, &mut document, &command.act, extras)?;
-    put_session(alloc, &mut document, extras.lsid)?;
-    put_number(alloc, &mut document, extras.number)?;
-    put_time(alloc, &mut document, time)?;
-    Ok(document)
+    let start = writer.begin()?;
+    put_front(writer, command, db)?;
+    put_extras(alloc, writer, &command.act, extras, time)?;
+    writer.end(start)
+}
+
+/// What a command asks for, and the fields behind that which stand in every command of its kind.
+fn put_front(writer: &mut ElementWriter, command: &Command, db: &str) -> Result<(), EncodeFault>
+    ensures writes { OnOk result (Writes writer.old writer.new (front_fields command.now db.now)) }
+{
+    put_act(writer, command.coll.as_str(), &command.act)?;
+    put_concern(writer, command)?;
+    writer.text("apiVersion", "1")?;
+    writer.text("$db", db_of(command, db))
+}
+
+/// The fields that stand where they are given.
+fn put_extras(
+    alloc: Global,
+    writer: &mut ElementWriter,
+    act: &Act,
+    extras: &Extras<'_>,
+    time: Option<&ClusterTime>,
+) -> Result<(), EncodeFault>
+    ensures writes { OnOk result (Writes writer.old writer.new (extra_fields act.now extras.now (option_copied time.entry))) }
+{
+    put_preference(alloc, writer, act, extras)?;
+    put_session(writer, extras.lsid)?;
+    put_number(writer, extras.number)?;
+    put_time(writer, time)
 }
 
 /// The write concern of a write.
-fn put_concern(alloc: Global, document: &mut Document, command: &Command) -> Result<(), Memory>
-    ensures { OnOk result (document.new.elements ≡ document.old.elements ++ given (codes "writeConcern") (concern_of command.now.act)) }
+fn put_concern(writer: &mut ElementWriter, command: &Command) -> Result<(), EncodeFault>
+    ensures writes { OnOk result (Writes writer.old writer.new (given (codes "writeConcern") (concern_of command.now.act))) }
 {
-    if is_write(command) {
-        document.put(alloc, "writeConcern", Value::Doc(majority(alloc)?))?;
+    if !is_write(command) {
+        return Ok(());
     }
-    Ok(())
+    let concern = writer.begin_document("writeConcern")?;
+    writer.text("w", "majority")?;
+    writer.end(concern)
 }
 
 /// The read preference of a find.
 fn put_preference(
     alloc: Global,
-    document: &mut Document,
+    writer: &mut ElementWriter,
     act: &Act,
     extras: &Extras<'_>,
-) -> Result<(), Memory>
-    ensures { OnOk result (document.new.elements ≡ document.old.elements ++ given (codes "$readPreference") (preference_of act.now extras.now)) }
+) -> Result<(), EncodeFault>
+    ensures writes { OnOk result (Writes writer.old writer.new (given (codes "$readPreference") (preference_of act.now extras.now))) }
 {
-    if let Some(mode) = sent_mode(act, extras.mode) {
-        let preference = preference_document(alloc, sent_tags(act, extras.read), mode)?;
-        document.put(alloc, "$readPreference", Value::Doc(preference))?;
+    match sent_mode(act, extras.mode) {
+        Some(mode) => {
+            let preference = preference_document(alloc, sent_tags(act, extras.read), mode)?;
+            writer.document("$readPreference", &preference)
+        }
+        None => Ok(()),
     }
-    Ok(())
 }
 
 /// The session's id, where one is given.
-fn put_session(alloc: Global, document: &mut Document, lsid: Option<Lsid>) -> Result<(), Memory>
-    ensures { OnOk result (document.new.elements ≡ document.old.elements ++ given (codes "lsid") (session_of lsid)) }
+fn put_session(writer: &mut ElementWriter, lsid: Option<Lsid>) -> Result<(), EncodeFault>
+    ensures writes { OnOk result (Writes writer.old writer.new (given (codes "lsid") (session_of lsid))) }
 {
-    if let Some(id) = lsid {
-        document.put(alloc, "lsid", Value::Doc(session(alloc, id)?))?;
+    match lsid {
+        Some(id) => {
+            let session = writer.begin_document("lsid")?;
+            writer.binary("id", UUID, &id.0)?;
+            writer.end(session)
+        }
+        None => Ok(()),
     }
-    Ok(())
 }
 
 /// The transaction number, where one is given.
-fn put_number(alloc: Global, document: &mut Document, number: Option<i64>) -> Result<(), Memory>
-    ensures { OnOk result (document.new.elements ≡ document.old.elements ++ given (codes "txnNumber") (number_of number)) }
+fn put_number(writer: &mut ElementWriter, number: Option<i64>) -> Result<(), EncodeFault>
+    ensures writes { OnOk result (Writes writer.old writer.new (given (codes "txnNumber") (number_of number))) }
 {
-    if let Some(number) = number {
-        document.put(alloc, "txnNumber", Value::Int64(number))?;
+    match number {
+        Some(number) => writer.int64("txnNumber", number),
+        None => Ok(()),
     }
-    Ok(())
 }
 
 /// The cluster time, where one is known.
-fn put_time(
-    alloc: Global,
-    document: &mut Document,
-    time: Option<&ClusterTime>,
-) -> Result<(), Memory>
-    ensures { OnOk result (document.new.elements ≡ document.old.elements ++ given (codes "$clusterTime") (time_of (option_copied time.entry))) }
+fn put_time(writer: &mut ElementWriter, time: Option<&ClusterTime>) -> Result<(), EncodeFault>
+    ensures writes { OnOk result (Writes writer.old writer.new (given (codes "$clusterTime") (time_of (option_copied time.entry)))) }
 {
-    if let Some(time) = time {
-        document.put(alloc, "$clusterTime", Value::Doc(time.body.copy(alloc)?))?;
+    match time {
+        Some(time) => writer.document("$clusterTime", &time.body),
+        None => Ok(()),
     }
-    Ok(())
 }

@@ -1,40 +1,21 @@
 //! Values and documents that stand in more than one command.
-ghost use Rattle.std.specs.Prelude.{◌≡◌, [], ◌∷◌, IfOk, codes};
-ghost use Rattle.bson_doc.specs.declared.value.Value.{Array, Doc};
+ghost use Rattle.std.specs.Prelude.{◌≡◌, IfOk};
 ghost use Rattle.bson_doc.specs.declared.value.Value.TheVariants.{Str};
-ghost use Rattle.cmd_build.specs.Commands.{db_of as db_of_command, majority, session};
+ghost use Rattle.cmd_build.specs.Commands.{db_of as db_of_command, session};
 
 use crate::Memory;
 use crate::command::Command;
-use bson_doc::{Bytes, Document, Lsid, Rows, Text, Value};
+use bson_doc::{Bytes, Document, Lsid, Text, Value};
 use std::alloc::Global;
 
 /// The subtype of a UUID (bsonspec 1.1, binary).
-const UUID: u8 = 4;
+pub(crate) const UUID: u8 = 4;
 
 /// A text as a value.
 pub(crate) fn text(alloc: Global, text: &str) -> Result<Value, Memory>
     ensures { IfOk result (λ v. v ≡ Str text.now) }
 {
     Ok(Value::Str(Text::take(alloc, text)?))
-}
-
-/// The array of one document.
-pub(crate) fn array_of(alloc: Global, document: Document) -> Result<Value, Memory>
-    ensures { IfOk result (λ v. v ≡ Array (Doc document ∷ [])) }
-{
-    let mut items = Rows::new(alloc);
-    items.push(Value::Doc(document))?;
-    Ok(Value::Array(items))
-}
-
-/// A write concern of the majority.
-pub(crate) fn majority(alloc: Global) -> Result<Document, Memory>
-    ensures { IfOk result (λ d. d ≡ majority) }
-{
-    let mut concern = Document::new(alloc);
-    concern.put(alloc, "w", text(alloc, "majority")?)?;
-    Ok(concern)
 }
 
 /// A session's id.

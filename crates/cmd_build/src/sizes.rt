@@ -1,9 +1,9 @@
 //! How large a command is, by its parts: nothing is built to be measured.
-ghost use Rattle.std.specs.Prelude.{◌≡◌, ◌+◌, [], ◌∷◌, length, map, codes};
-ghost use Rattle.std.specs.Option.{option_copied, option_map};
+ghost use Rattle.std.specs.Prelude.{◌≡◌, ◌+◌, [], ◌∷◌, length, map, codes, Err, None, IfErr, IfOk, IfSome, OnOk};
+ghost use Rattle.std.specs.Option.{option_copied, option_map, option_or};
 ghost use Rattle.bson_wire.specs.Spelled.{numbered, payload, spelled, spelled_elements};
 ghost use Rattle.cmd_build.specs.Commands.{act_fields, command_document, concern_of, given, modification, number_of, preference_of, session_of, tag_field, tag_sets_field, tag_value, time_of};
-ghost use Rattle.cmd_build.specs.Sizes.{excess, fault_of, first_over, documents_of, message_size as size_of_message, over as excess_over, told};
+ghost use Rattle.cmd_build.specs.Sizes.{Tells, excess, fault_of, first_over, documents_of, message_size as size_of_message, over as excess_over, told};
 
 use crate::command::{Act, Command, is_write};
 use crate::extras::{Extras, Sizes};
@@ -23,19 +23,37 @@ const AROUND_BINARY: u64 = 5;
 /// How many bytes a message has beside its document: a header of sixteen, four of flags, the section's kind.
 const AROUND_DOCUMENT: u64 = 21;
 
-/// What is too large of a command: the first of its documents, or else its whole message.
-pub(crate) fn too_large(
+/// How many bytes the message of a command has, from a client of that database, with these extras and the greatest cluster time that the
+/// client knows (MongoDB wire protocol, OP_MSG). Nothing is built to be measured.
+///
+/// `TooLarge` comes exactly where one of the command's documents has more bytes than `max_doc`, or else where the whole message has more
+/// than `max_message`; it names the first. No other fault comes.
+pub fn measure(
     command: &Command,
     db: &str,
     extras: &Extras<'_>,
     time: Option<&ClusterTime>,
     sizes: Sizes,
-) -> Option<BuildFault>
-    ensures { result ≡ option_map fault_of (excess command.now db.now extras.now (option_copied time.entry) sizes) }
+) -> Result<u64, BuildFault>
+    ensures size { IfOk result (λ size. size ≡ size_of_message (command_document command.now db.now extras.now (option_copied time.entry))) }
+    ensures fits { OnOk result (excess command.now db.now extras.now (option_copied time.entry) sizes ≡ None) }
+    ensures large { IfSome (excess command.now db.now extras.now (option_copied time.entry) sizes) (λ e. result ≡ Err (BuildFault.TooLarge e.size e.most)) }
+    ensures too_large { IfErr result (λ fault. Tells fault (excess command.now db.now extras.now (option_copied time.entry) sizes)) }
 {
-    match document_over(sizes.max_doc, &command.act) {
+    let size = message_size(command, db, extras, time);
+    match too_large(&command.act, size, sizes) {
+        Some(fault) => Err(fault),
+        None => Ok(size),
+    }
+}
+
+/// What is too large of a command with that act, whose message has so many bytes: the first of its documents, or else its whole message.
+fn too_large(act: &Act, size: u64, sizes: Sizes) -> Option<BuildFault>
+    ensures { result ≡ option_map fault_of (option_or (first_over sizes.max_doc (documents_of act.now)) (excess_over sizes.max_message size)) }
+{
+    match document_over(sizes.max_doc, act) {
         Some(fault) => Some(fault),
-        None => over(sizes.max_message, message_size(command, db, extras, time)),
+        None => over(sizes.max_message, size),
     }
 }
 

@@ -2,7 +2,7 @@
 //!
 //! A [`Message`] has a header (messageLength, requestID, responseTo, opCode), flagBits, and sections: exactly one of kind 0,
 //! which holds its document, and any number of kind 1, each a [`Sequence`] of documents under a name. [`write`] gives the
-//! bytes of one with a section of kind 0 alone; [`read`] reads the message at the front of some bytes, or names the first
+//! bytes of one with a section of kind 0 alone, and [`front_of`] what stands in front of its document; [`read`] reads the message at the front of some bytes, or names the first
 //! fault that it meets, with its place. Which bytes frame a message is said by the relation `Framed` of
 //! `specs/Framing.antt`, apart from both directions; `frame` there is what `write` gives, and `flaw` of
 //! `specs/Reading.antt` is the first fault. [`MsgFault::place`] is where in the message it stands. The laws that tie them
@@ -35,4 +35,4 @@ pub use fault::MsgFault;
 pub use message::Message;
 pub use reading::{need, read};
 pub use sequence::Sequence;
-pub use writing::write;
+pub use writing::{front_of, write};

@@ -51,8 +51,15 @@ pub fn write(
     Ok(Bytes::from_vec(bytes))
 }
 
-/// What stands in front of the document of a message that fits, with room for the document, which has so many bytes.
-fn front_of(alloc: Global, spelling: usize, id: i32, to: i32, flags: u32) -> Result<Vec<u8>, Memory>
+/// What stands in front of the document of a message with one section of kind 0, whose requestID is `id` and whose responseTo is `to`: the
+/// header, flagBits and the section's kind; with room for the document, which has so many bytes.
+pub fn front_of(
+    alloc: Global,
+    spelling: usize,
+    id: i32,
+    to: i32,
+    flags: u32,
+) -> Result<Vec<u8>, Memory>
     requires { spelling + 21 ≤ most_message }
     ensures { IfOk result (λ bytes. bytes.items ≡ header (spelling + 21) id to ++ number32 flags ++ 0 ∷ []) }
 {

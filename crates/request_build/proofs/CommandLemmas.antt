@@ -1,18 +1,14 @@
 -- A command's request, by its inputs.
-use Rattle.std.proofs.Common.{◌≡◌, ◌≤◌, ℕ, ℤ, pos, ◌+◌, List, Option, None, Some, length, sym, ap, ◌∙◌, subst, arith}
+use Rattle.std.proofs.Common.{◌≡◌, ◌≤◌, ℕ, ◌+◌, List, Option, None, Some, length, sym, ap, ◌∙◌, subst, arith}
 use Rattle.std.specs.Option.{option_copied}
-use Rattle.bson_doc.specs.Documents.{depth_of}
 use Rattle.bson_doc.specs.declared.cluster_time.ClusterTime.{ClusterTime}
 use Rattle.bson_doc.specs.declared.value.Document.{Document}
 use Rattle.bson_wire.specs.Spelled.{spelled}
-use Rattle.msg_wire.specs.Framing.{frame}
-use Rattle.msg_wire.proofs.Framings.{length-framing}
 use Rattle.cmd_build.specs.Commands.{command_document}
-use Rattle.cmd_build.specs.Sizes.{IsWithin, excess, levels_of_time}
+use Rattle.cmd_build.specs.Sizes.{excess, message_size}
 use Rattle.cmd_build.specs.declared.command.Command.{Command}
 use Rattle.cmd_build.specs.declared.extras.Extras.{Extras}
 use Rattle.cmd_build.specs.declared.extras.Sizes.{Sizes}
-use Rattle.cmd_build.proofs.DepthLemmas.{depth_of-command_document}
 use Rattle.cmd_build.proofs.SizeLemmas.{fits_message}
 use Rattle.conn_uri.specs.Configurations.{Configuration}
 use Rattle.desk_trail.specs.declared.request.Request.{Request}
@@ -22,22 +18,17 @@ use Rattle.desk_trail.specs.States.{ClientState, Selected}
 use Rattle.request_build.specs.Inputs.{AreInputs}
 use Rattle.request_build.specs.declared.sending.Sending.{Sending}
 
--- a message has 21 bytes beside its document
-pub length-frame : (id to : ℤ) (flags : ℕ) (d : Document) → length (frame id to flags d) ≡ length (spelled d) + 21
-unfolding frame
-length-frame id to flags d = length-framing id to flags (spelled d)
-
--- a command lies no deeper than a document may
-pub depth_of-command : (c : Command) (db : List ℕ) (extras : Extras) (time : Option ClusterTime) → IsWithin 90 c.act → levels_of_time time ≤ 99 →
-    depth_of (command_document c db extras time) ≤ 100
-depth_of-command c db extras time within levels = omega (arith, depth_of-command_document 90 c db extras time within, levels)
-
 -- a command that is not too large has no more bytes than a message may
 pub fits : (c : Command) (db : List ℕ) (extras : Extras) (time : Option ClusterTime) (sizes : Sizes) → sizes.max_message ≤ 48000000 → excess c db extras time sizes ≡ None →
     length (spelled (command_document c db extras time)) + 21 ≤ 48000000
 fits c db extras time sizes small e =
     let less = fits_message c db extras time sizes (omega (arith, small)) e in
     omega (arith, less, small)
+
+-- its size is that of its document and 21 bytes beside it
+pub size-is : (c : Command) (db : List ℕ) (extras : Extras) (time : Option ClusterTime) (sizes : Sizes) (size : ℕ) → sizes.max_message ≤ 48000000 →
+    excess c db extras time sizes ≡ None → size ≡ message_size (command_document c db extras time) → size ≡ length (spelled (command_document c db extras time)) + 21
+size-is c db extras time sizes size small e told = grind (arith, told, fits c db extras time sizes small e)
 
 -- ---- What the inputs lead to
 

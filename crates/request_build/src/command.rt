@@ -9,10 +9,9 @@ use crate::extras::{extras_of, sizes_of};
 use crate::ids::id_of;
 use crate::{CommandRequest, MadeRequest, Memory, SendAt, Sending};
 use bson_doc::Bytes;
-use bson_wire::EncodeFault;
-use cmd_build::{BuildFault, Extras, Sizes, build};
+use cmd_build::{BuildFault, Extras, Sizes, append, measure};
 use desk_trail::{Purpose, Request};
-use msg_wire::write;
+use msg_wire::front_of;
 use std::alloc::{AllocError, Global};
 
 /// The request of a command that has a connection, as the one at that place, or the sizes by which it is too large (CRUD; Driver
@@ -49,6 +48,9 @@ pub fn command_request(
     }
 }
 
+/// How many bytes a message has beside its document: a header of sixteen, four of flags, the section's kind.
+const AROUND_DOCUMENT: u64 = 21;
+
 /// The bytes of a command's message with that id.
 fn message_of(
     alloc: Global,
@@ -70,14 +72,16 @@ fn message_of(
 {
     let settings = sending.settings;
     let db = settings.db.as_str();
-    let document = match build(alloc, sending.command, db, extras, sending.time, sizes) {
-        Ok(document) => document,
+    let size = match measure(sending.command, db, extras, sending.time, sizes) {
+        Ok(size) => size,
         Err(fault) => return Err(fault),
     };
-    match write(alloc, id, 0, 0, &document) {
-        Ok(bytes) => Ok(bytes),
-        Err(EncodeFault::Memory) => Err(BuildFault::Memory),
-        Err(EncodeFault::Deep) => unreachable!(),
-        Err(EncodeFault::Long) => unreachable!(),
+    let spelling = (size - AROUND_DOCUMENT) as usize;
+    let Ok(front) = front_of(alloc, spelling, id, 0, 0) else {
+        return Err(BuildFault::Memory);
+    };
+    match append(alloc, front, sending.command, db, extras, sending.time) {
+        Ok(bytes) => Ok(Bytes::from_vec(bytes)),
+        Err(_) => Err(BuildFault::Memory),
     }
 }

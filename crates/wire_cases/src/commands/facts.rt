@@ -9,10 +9,13 @@ use crate::commands::asked::Asked;
 use crate::commands::readings::reading_fact;
 use crate::commands::state::State;
 use bson_doc::Document;
-use bson_wire::{encode, size};
+use bson_wire::{EncodeFault, encode, size};
 use case_files::{CaseFault, Memory};
-use cmd_build::{BuildFault, Command, build, is_retryable, is_write};
+use cmd_build::{BuildFault, Command, append, is_retryable, is_write, measure};
 use std::alloc::Global;
+
+/// How many bytes a message has beside its document: a header of sixteen, four of flags, the section's kind.
+const AROUND_DOCUMENT: u64 = 21;
 
 /// The fact of that name.
 pub fn fact_of(alloc: Global, state: &State, name: &str) -> Result<Option<String>, CaseFault> {
@@ -36,33 +39,32 @@ fn command_fact(alloc: Global, asked: &Asked, name: &str) -> Result<Option<Strin
     Ok(Some(fact))
 }
 
-/// The bytes that the command sends, built with what is given, behind the fact's name.
+/// The bytes that the command sends, with what is given, behind the fact's name.
 fn built(alloc: Global, asked: &Asked, command: &Command, name: &str) -> Result<String, CaseFault> {
-    match document_of(alloc, asked, command) {
-        Ok(document) => Ok(spelled(alloc, name, &document)?),
-        Err(fault) => fault_text(alloc, name, fault),
+    let given = &asked.given;
+    let db = given.client.as_str();
+    let extras = given.extras();
+    let time = given.time.as_ref();
+    if let Err(fault) = measure(command, db, &extras, time, given.sizes) {
+        return fault_text(alloc, name, fault);
+    }
+    match append(alloc, Vec::new(alloc), command, db, &extras, time) {
+        Ok(bytes) => Ok(line_of(alloc, name, bytes.as_slice())?),
+        Err(EncodeFault::Deep) => Ok(format!(in alloc; "{name} too deep")?),
+        Err(EncodeFault::Long) => Ok(format!(in alloc; "{name} too long")?),
+        Err(EncodeFault::Memory) => Err(CaseFault::Memory),
     }
 }
 
 /// How many bytes the command's document has.
 fn length(alloc: Global, asked: &Asked) -> Result<String, CaseFault> {
-    match document_of(alloc, asked, &asked.command) {
-        Ok(document) => Ok(format!(in alloc; "length {}", size(&document))?),
-        Err(fault) => fault_text(alloc, "length", fault),
-    }
-}
-
-fn document_of(alloc: Global, asked: &Asked, command: &Command) -> Result<Document, BuildFault> {
     let given = &asked.given;
     let db = given.client.as_str();
-    build(
-        alloc,
-        command,
-        db,
-        &given.extras(),
-        given.time.as_ref(),
-        given.sizes,
-    )
+    let time = given.time.as_ref();
+    match measure(&asked.command, db, &given.extras(), time, given.sizes) {
+        Ok(size) => Ok(format!(in alloc; "length {}", size.saturating_sub(AROUND_DOCUMENT))?),
+        Err(fault) => fault_text(alloc, "length", fault),
+    }
 }
 
 fn fault_text(alloc: Global, name: &str, fault: BuildFault) -> Result<String, CaseFault> {
@@ -84,11 +86,17 @@ fn sent_fact(alloc: Global, document: &Document, name: &str) -> Result<Option<St
 
 /// The document's bytes behind the fact's name.
 fn spelled(alloc: Global, name: &str, document: &Document) -> Result<String, Memory> {
+    match encode(alloc, document) {
+        Ok(bytes) => line_of(alloc, name, bytes.as_slice()),
+        Err(_) => String::from_str(alloc, name),
+    }
+}
+
+/// Bytes behind the fact's name.
+fn line_of(alloc: Global, name: &str, bytes: &[u8]) -> Result<String, Memory> {
     let mut line = String::from_str(alloc, name)?;
-    if let Ok(bytes) = encode(alloc, document) {
-        for byte in bytes.as_slice() {
-            write!(line, " {byte:02x}")?;
-        }
+    for byte in bytes {
+        write!(line, " {byte:02x}")?;
     }
     Ok(line)
 }

@@ -92,3 +92,16 @@ impl<T: Drop> Buffer<T> {
         Ok(())
     }
 }
+
+impl<T: Copy> Buffer<T> {
+    /// Appends items within the room.
+    pub fn put_all(&mut self, items: &[T])
+        requires { length items.now ≤ self.old.room }
+        ensures items { self.new.items ≡ self.old.items ++ items.now }
+        ensures room { self.old.room ≤ self.new.room + length items.now }
+    {
+        let Ok(()) = self.held.extend_from_slice(items) else {
+            unreachable!()
+        };
+    }
+}

@@ -11,14 +11,3 @@ pub fn copy_front(from: &[u8], into: &mut [u8]) -> usize
     into[..count].copy_from_slice(&from[..count]);
     count
 }
-
-/// Appends bytes within the room.
-pub fn fill(buffer: &mut Buffer<u8>, bytes: &[u8])
-    requires { length bytes.now ≤ buffer.old.room }
-    ensures items { buffer.new.items ≡ buffer.old.items ++ bytes.now }
-    ensures room { buffer.new.room + length bytes.now ≡ buffer.old.room }
-{
-    for byte in bytes {
-        buffer.put(*byte);
-    }
-}

@@ -6,12 +6,14 @@ ghost use Rattle.net_link.specs.Inbox.{ReadsInbox};
 ghost use Rattle.net_link.specs.Keeps.{Keeps, all, all_but_inbox_of};
 ghost use Rattle.net_link.specs.Turns.{added, AddsUpTo};
 
-use crate::pieces::fill;
 use crate::{Came, Net, Wrote};
 use bson_doc::Buffer;
 
 /// How much one read asks for at most.
 const PIECE: usize = 4096;
+
+/// How much it may be to be read by way of a piece of no more, which costs less to lay out than one of [`PIECE`].
+const SHORT_PIECE: usize = 256;
 
 /// One write on a stream of what lies behind the first `sent` bytes.
 pub fn send_some<N: Net>(net: &mut N, stream: u64, bytes: &[u8], sent: usize) -> Wrote
@@ -41,14 +43,32 @@ pub fn receive_some<N: Net>(net: &mut N, stream: u64, into: &mut Buffer<u8>, wan
     ensures told { N.tells → Adds (read_events stream (added into.old.items into.new.items) result) (N.history net.old) (N.history net.new) }
     ensures inbox { N.tells → ReadsInbox (N.inbox net.old stream) (N.inbox net.new stream) (N.has_ended net.new stream) (added into.old.items into.new.items) result }
 {
-    let size = want.min(PIECE);
-    let Ok(()) = into.reserve(size) else {
+    if want <= SHORT_PIECE {
+        receive_piece(net, stream, into, &mut [0; SHORT_PIECE][..want])
+    } else {
+        receive_piece(net, stream, into, &mut [0; PIECE][..want.min(PIECE)])
+    }
+}
+
+/// One read on a stream into a piece, of which what came is appended to `into`. At `Memory` nothing was read.
+fn receive_piece<N: Net>(net: &mut N, stream: u64, into: &mut Buffer<u8>, piece: &mut [u8]) -> Came
+    requires is_open { N.is_open net.old stream }
+    requires some { 0 < length piece.old }
+
+    ensures kept { into.new.items ≡ into.old.items ++ added into.old.items into.new.items }
+    ensures within { AddsUpTo (length piece.old) (added into.old.items into.new.items) result }
+    ensures cause { HasCause (N.faults net.old) (N.faults net.new) (result ≡ Came.Failed) }
+    ensures keeps { Keeps (all_but_inbox_of stream) N.tells N.is_open N.next N.inbox N.has_ended net.old net.new }
+
+    ensures told { N.tells → Adds (read_events stream (added into.old.items into.new.items) result) (N.history net.old) (N.history net.new) }
+    ensures inbox { N.tells → ReadsInbox (N.inbox net.old stream) (N.inbox net.new stream) (N.has_ended net.new stream) (added into.old.items into.new.items) result }
+{
+    let Ok(()) = into.reserve(piece.len()) else {
         return Came::Memory;
     };
-    let mut piece = [0; PIECE];
-    match net.read(stream, &mut piece[..size]) {
+    match net.read(stream, piece) {
         Came::Got(count) => {
-            fill(into, &piece[..count]);
+            into.put_all(&piece[..count]);
             Came::Got(count)
         }
         Came::NotYet => Came::NotYet,

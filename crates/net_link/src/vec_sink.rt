@@ -4,7 +4,6 @@ ghost use Rattle.net_link.specs.Failing.{IsDue, unused};
 ghost use Rattle.net_link.specs.Sinks.{IfTook, TakesTo, TookWithin, sink_counts};
 
 use crate::failures::Failures;
-use crate::pieces::fill;
 use crate::{Sink, SinkTook};
 use bson_doc::{Buffer, Memory, Rows};
 use std::alloc::Global;
@@ -83,7 +82,7 @@ impl Sink for VecSink {
         }
         self.failures.count();
         let count = bytes.len().min(room);
-        fill(&mut self.bytes, &bytes[..count]);
+        self.bytes.put_all(&bytes[..count]);
         SinkTook::Took(count)
     }
 }

@@ -134,12 +134,12 @@ impl Socket {
         }
         self.is_fresh = false;
         let count = self.stream.get_mut().write(self.kept.as_slice())?;
-        drop(self.kept.drain(..count));
-        if self.kept.is_empty() {
-            Ok(())
-        } else {
-            Err(io::Error::from(ErrorKind::WouldBlock))
+        if count == self.kept.len() {
+            self.kept.clear();
+            return Ok(());
         }
+        drop(self.kept.drain(..count));
+        Err(io::Error::from(ErrorKind::WouldBlock))
     }
 
     fn rest<R: Clock + Sockets>(&mut self, rt: &R, watch: &SocketWatch, most: Duration) -> bool {

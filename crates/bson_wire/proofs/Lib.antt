@@ -4,3 +4,4 @@ pub mod Written
 pub mod PlainWritten
 pub mod Lengths
 pub mod Canonical
+pub mod WriteLemmas

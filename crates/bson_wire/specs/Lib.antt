@@ -4,3 +4,4 @@ pub mod Spelling
 pub mod Spelled
 pub mod Reading
 pub mod Written
+pub mod Writes

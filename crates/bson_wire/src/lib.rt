@@ -12,6 +12,9 @@
 //!
 //! This product's own limits: a document has at most 100 levels and 48,000,000 bytes.
 //!
+//! An [`ElementWriter`] writes a document that is not in memory: its elements one behind another, and documents and arrays
+//! among them by their beginning and their end. `specs/Writes.antt` says what each call puts there, by the same spelling.
+//!
 //! Documents, arrays and code with a scope are read by `reading` and written by `writing`, each a cycle of calls; the
 //! kinds that hold no document stand apart from them, read by `plain` (with `fixed` and `varying`) and written by
 //! `plain_put`.
@@ -19,6 +22,7 @@
 
 mod appending;
 mod decoding;
+mod element_writer;
 mod encoding;
 mod fault;
 mod fixed;
@@ -37,6 +41,7 @@ mod writing;
 pub use appending::append;
 pub use bson_doc::BsonFault;
 pub use decoding::decode;
+pub use element_writer::ElementWriter;
 pub use encoding::encode;
 pub use fault::EncodeFault;
 pub use limits::MOST_LEVELS;

@@ -102,7 +102,7 @@ fn put_oid(out: &mut Vec<u8>, id: &Oid) -> Result<(), EncodeFault>
 }
 
 /// A signed number of four bytes.
-fn put_int32(out: &mut Vec<u8>, n: &i32) -> Result<(), EncodeFault>
+pub fn put_int32(out: &mut Vec<u8>, n: &i32) -> Result<(), EncodeFault>
     ensures ok { OnOk result (out.new.items ≡ out.old.items ++ number32 (cast_unsigned w32 n.now)) }
     ensures err { IfErr result (λ e. e ≡ EncodeFault.Memory) }
     ensures fits { FitsSigned w32 n.now }
@@ -113,7 +113,7 @@ fn put_int32(out: &mut Vec<u8>, n: &i32) -> Result<(), EncodeFault>
 }
 
 /// A signed number of eight bytes.
-fn put_int64(out: &mut Vec<u8>, n: &i64) -> Result<(), EncodeFault>
+pub fn put_int64(out: &mut Vec<u8>, n: &i64) -> Result<(), EncodeFault>
     ensures ok { OnOk result (out.new.items ≡ out.old.items ++ int64 n.now) }
     ensures err { IfErr result (λ e. e ≡ EncodeFault.Memory) }
     ensures fits { FitsSigned w64 n.now }
@@ -135,7 +135,7 @@ fn put_stamp(out: &mut Vec<u8>, n: &u64) -> Result<(), EncodeFault>
 }
 
 /// How many bytes, the subtype, and the bytes.
-fn put_binary(out: &mut Vec<u8>, subtype: u8, bytes: &[u8]) -> Result<(), EncodeFault>
+pub fn put_binary(out: &mut Vec<u8>, subtype: u8, bytes: &[u8]) -> Result<(), EncodeFault>
     ensures ok { OnOk result (out.new.items ≡ out.old.items ++ binary subtype bytes.now) }
     ensures size { OnOk result (length (binary subtype bytes.now) ≤ most_bytes) }
     ensures long { IfErr result (Stops (length (binary subtype bytes.now))) }

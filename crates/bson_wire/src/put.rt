@@ -1,12 +1,14 @@
-//! The parts that values are written by: bytes, numbers, texts, totals, and the end of a document.
+//! The parts that elements and values are written by: bytes, numbers, an element's front, texts, totals, and the end of a document.
 
 ghost use Rattle.std.specs.Prelude.{◌≡◌, ◌≤◌, ◌+◌, ◌∷◌, [], ◌++◌, length, take, drop, vec_len, OnOk, IfErr};
+ghost use Rattle.bson_doc.specs.wire.Kinds.{byte_of};
 ghost use Rattle.bson_doc.specs.wire.Limits.{most_bytes};
 ghost use Rattle.bson_doc.specs.wire.Spelled.{number32, string, document, counted};
 ghost use Rattle.bson_wire.specs.Written.{Stops};
 
 use crate::EncodeFault;
 use crate::limits::MOST_BYTES;
+use bson_doc::Kind;
 use byteorder::{ByteOrder, LittleEndian};
 
 /// A byte.
@@ -35,6 +37,16 @@ pub fn put_number(out: &mut Vec<u8>, n: u32) -> Result<(), EncodeFault>
     let mut number = [0; 4];
     LittleEndian::write_u32(&mut number, n);
     put_bytes(out, &number)
+}
+
+/// What stands in front of a payload: the type byte, the name and 00.
+pub fn put_front(out: &mut Vec<u8>, kind: Kind, name: &str) -> Result<(), EncodeFault>
+    ensures ok { OnOk result (out.new.items ≡ out.old.items ++ (byte_of kind ∷ (name.now ++ 0 ∷ []))) }
+    ensures err { IfErr result (λ e. e ≡ EncodeFault.Memory) }
+{
+    put_byte(out, kind.byte())?;
+    put_bytes(out, name.as_bytes())?;
+    put_byte(out, 0)
 }
 
 /// A number of four bytes, over those that stand at the place.

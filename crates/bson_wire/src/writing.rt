@@ -8,7 +8,7 @@ ghost use Rattle.bson_wire.specs.Written.{Stops, PayloadSpells, ElementSpells};
 
 use crate::EncodeFault;
 use crate::plain_put::{kind_of, put_plain};
-use crate::put::{end_document, put_byte, put_bytes, put_string, set_total};
+use crate::put::{end_document, put_bytes, put_front, put_string, set_total};
 use bson_doc::{Document, Value};
 
 /// A document.
@@ -66,9 +66,7 @@ fn put_element(out: &mut Vec<u8>, name: &str, value: &Value) -> Result<(), Encod
     ensures long { IfErr result (Stops (length (element name.now (payload value.now)))) }
     ensures known { OnOk result (PayloadSpells value.now) }
 {
-    put_byte(out, kind_of(value).byte())?;
-    put_bytes(out, name.as_bytes())?;
-    put_byte(out, 0)?;
+    put_front(out, kind_of(value), name)?;
     put_value(out, value)
 }
 

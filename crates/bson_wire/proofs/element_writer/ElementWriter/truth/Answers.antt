@@ -3,8 +3,8 @@ use Rattle.std.proofs.lemmas.Result.{on_ok_weaker}
 use Rattle.bson_doc.specs.declared.value.Value.TheVariants as value
 use Rattle.bson_wire.proofs.Payloads.{payload-Bool}
 use Rattle.bson_wire.proofs.PlainWritten.{bool_spells, truth_is}
-use Rattle.bson_build.proofs.WriteLemmas.{name-is, wrote-one}
-use Rattle.bson_build.proofs.writer.ElementWriter.truth.Goals as goal
+use Rattle.bson_wire.proofs.WriteLemmas.{name-is, wrote-one}
+use Rattle.bson_wire.proofs.element_writer.ElementWriter.truth.Goals as goal
 
 pub returns-clause-writes : goal.returns-clause-writes
 returns-clause-writes c =

@@ -3,8 +3,8 @@ use Rattle.bson_doc.specs.declared.value.Value.{Doc}
 use Rattle.bson_doc.specs.wire.Spelled.{spelled}
 use Rattle.bson_wire.proofs.Payloads.{payload-Doc}
 use Rattle.bson_wire.proofs.Written.{doc_spells}
-use Rattle.bson_build.proofs.WriteLemmas.{name-is, wrote-one}
-use Rattle.bson_build.proofs.writer.ElementWriter.document.Goals as goal
+use Rattle.bson_wire.proofs.WriteLemmas.{name-is, wrote-one}
+use Rattle.bson_wire.proofs.element_writer.ElementWriter.document.Goals as goal
 
 pub returns-clause-writes : goal.returns-clause-writes
 returns-clause-writes c =

@@ -2,12 +2,11 @@
 use Rattle.std.specs.Prelude.{◌≡◌, ◌≤◌, ◌+◌, ℕ, List, [], ◌∷◌, ◌++◌, length, take, drop}
 use Rattle.std.specs.List.{AllByRecursion}
 use Rattle.bson_doc.specs.declared.name.Name.{Name}
-use Rattle.bson_doc.specs.declared.value.Document.{Document}
 use Rattle.bson_doc.specs.declared.value.Value.{Value}
 use Rattle.bson_doc.specs.declared.kind.Kind.{Kind}
 use Rattle.bson_doc.specs.wire.Kinds.{byte_of}
 use Rattle.bson_doc.specs.wire.Limits.{most_bytes}
-use Rattle.bson_doc.specs.wire.Spelled.{document, spelled, spelled_elements}
+use Rattle.bson_doc.specs.wire.Spelled.{document, spelled_elements}
 use Rattle.bson_doc.specs.wire.Spelling.{IsName}
 use Rattle.bson_wire.specs.Written.{ElementSpells}
 
@@ -35,9 +34,3 @@ pub record BeginsFirst (old new : List ℕ) (start : ℕ) : Type 0 where
 pub record Ends (start : ℕ) (old new : List ℕ) : Type 0 where
   pub bytes : new ≡ take start old ++ document (drop (start + 4) old)
   pub size : length (document (drop (start + 4) old)) ≤ most_bytes
-
--- An outermost document was written behind what was there.
-pub record WroteAll (old new : List ℕ) (d : Document) : Type 0 where
-  pub bytes : new ≡ old ++ spelled d
-  pub known : AllByRecursion ElementSpells d.elements
-  pub size : length (spelled d) ≤ most_bytes

@@ -18,7 +18,7 @@ use Rattle.bson_doc.specs.wire.Spelling.{IsName}
 use Rattle.bson_wire.specs.Written.{ElementSpells, PayloadSpells}
 use Rattle.bson_wire.proofs.Payloads.{payload-Array, payload-Doc}
 use Rattle.bson_wire.proofs.Written.{array_spells, doc_spells}
-use Rattle.bson_build.specs.Writes.{Begins, BeginsFirst, Ends, Writes, WroteAll, room}
+use Rattle.bson_wire.specs.Writes.{Begins, Ends, Writes, room}
 
 -- A name in UTF-8 that has no 00.
 pub name-is : (name : List ℕ) → HasNoZero name → IsUtf8 name → IsName name
@@ -124,22 +124,3 @@ wrote-array {old} {name} {at1} {at2} {new} {start} {v} begins writes ends =
 -- Behind what began at a place there is room for its total, whatever was written.
 pub has-room : (at1 at2 : List ℕ) (start : ℕ) (es : List (Name × Value)) → start + 4 ≡ length at1 → Writes at1 at2 es → start + 4 ≤ length at2
 has-room at1 at2 start es place writes = omega (arith, place, ap length writes.bytes, length-append at1 (spelled_elements es))
-
--- An outermost document whose elements were written between its beginning and its end.
-pub wrote-first : {old at1 at2 new : List ℕ} {start : ℕ} {es : List (Name × Value)} → BeginsFirst old at1 start → Writes at1 at2 es → Ends start at2 new →
-    WroteAll old new (record { elements = es })
-wrote-first {old} {at1} {at2} {new} {start} {es} begins writes ends = record { bytes = whole; known = writes.known; size = subst (λ (xs : List ℕ). length (document xs) ≤ most_bytes) inside ends.size }
-  where
-    at : start ≡ length old
-    at = omega (arith, begins.place, ap length begins.bytes, length-append old room)
-
-    inside : drop (start + 4) at2 ≡ spelled_elements es
-    inside = ap (λ (xs : List ℕ). drop (start + 4) xs) writes.bytes ∙ ap (λ (n : ℕ). drop n (at1 ++ spelled_elements es)) begins.place ∙ drop-append_seam at1 (spelled_elements es)
-
-    ahead : take start at2 ≡ old
-    ahead =
-        ap (λ (xs : List ℕ). take start xs) (writes.bytes ∙ ap (λ (xs : List ℕ). xs ++ spelled_elements es) begins.bytes ∙ append_assoc old room (spelled_elements es))
-        ∙ ap (λ (n : ℕ). take n (old ++ (room ++ spelled_elements es))) at ∙ take-append_seam old (room ++ spelled_elements es)
-
-    whole : new ≡ old ++ document (spelled_elements es)
-    whole = ends.bytes ∙ ap (λ (xs : List ℕ). xs ++ document (drop (start + 4) at2)) ahead ∙ ap (λ (xs : List ℕ). old ++ document xs) inside

@@ -3,8 +3,8 @@ use Rattle.bson_doc.specs.declared.value.Value.TheVariants as value
 use Rattle.bson_wire.proofs.Payloads.{payload-Str}
 use Rattle.bson_wire.proofs.PlainWritten.{str_spells}
 use Rattle.bson_wire.proofs.Written.{OnOk-both}
-use Rattle.bson_build.proofs.WriteLemmas.{name-is, wrote-one}
-use Rattle.bson_build.proofs.writer.ElementWriter.text.Goals as goal
+use Rattle.bson_wire.proofs.WriteLemmas.{name-is, wrote-one}
+use Rattle.bson_wire.proofs.element_writer.ElementWriter.text.Goals as goal
 
 pub returns-clause-writes : goal.returns-clause-writes
 returns-clause-writes c =

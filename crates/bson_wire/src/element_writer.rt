@@ -1,19 +1,19 @@
-ghost use Rattle.std.specs.Prelude.{◌≡◌, ◌≤◌, ◌<◌, ◌+◌, ◌∷◌, [], length, Err, IfErr, IfOk, OnOk};
+ghost use Rattle.std.specs.Prelude.{◌≡◌, ◌≤◌, ◌<◌, ◌+◌, ◌∷◌, [], drop, length, Err, IfErr, IfOk, OnOk};
 ghost use Rattle.bson_doc.specs.Documents.{depth_of};
 ghost use Rattle.bson_doc.specs.Names.{HasNoZero};
 ghost use Rattle.bson_doc.specs.declared.kind.Kind.TheVariants as kinds;
 ghost use Rattle.bson_doc.specs.declared.value.Value.{Doc};
 ghost use Rattle.bson_doc.specs.declared.value.Value.TheVariants as value;
 ghost use Rattle.bson_doc.specs.wire.Limits.{most_bytes, most_levels};
-ghost use Rattle.bson_doc.specs.wire.Spelled.{binary, spelled, string};
+ghost use Rattle.bson_doc.specs.wire.Spelled.{binary, document, spelled, string};
 ghost use Rattle.bson_wire.specs.Written.{Stops};
-ghost use Rattle.bson_build.specs.Writes.{Begins, BeginsFirst, Ends, Writes};
+ghost use Rattle.bson_wire.specs.Writes.{Begins, BeginsFirst, Ends, Writes};
 
-use crate::put::{
-    put_byte, put_bytes, put_end, put_front, put_held, put_int32, put_int64, put_string,
-};
+use crate::EncodeFault;
+use crate::appending::append;
+use crate::plain_put::{put_binary, put_int32, put_int64};
+use crate::put::{end_document, put_byte, put_bytes, put_front, put_string};
 use bson_doc::{Document, Kind, PlainKind};
-use bson_wire::{EncodeFault, append};
 use std::alloc::Global;
 use std::marker::Model;
 use std::mem;
@@ -78,7 +78,7 @@ impl ElementWriter {
         ensures err { IfErr result (λ e. e ≡ EncodeFault.Memory) }
     {
         put_front(&mut self.out, Kind::Plain(PlainKind::Int32), name)?;
-        put_int32(&mut self.out, n)
+        put_int32(&mut self.out, &n)
     }
 
     /// A signed number of eight bytes (bsonspec 1.1, int64).
@@ -88,7 +88,7 @@ impl ElementWriter {
         ensures err { IfErr result (λ e. e ≡ EncodeFault.Memory) }
     {
         put_front(&mut self.out, Kind::Plain(PlainKind::Int64), name)?;
-        put_int64(&mut self.out, n)
+        put_int64(&mut self.out, &n)
     }
 
     /// Bytes with a subtype (bsonspec 1.1, binary).
@@ -98,7 +98,7 @@ impl ElementWriter {
         ensures long { IfErr result (Stops (length (binary subtype bytes.now))) }
     {
         put_front(&mut self.out, Kind::Plain(PlainKind::Binary), name)?;
-        put_held(&mut self.out, subtype, bytes)
+        put_binary(&mut self.out, subtype, bytes)
     }
 
     /// A document that is in memory (bsonspec 1.1, document).
@@ -130,20 +130,26 @@ impl ElementWriter {
         ensures begins { IfOk result (Begins kinds.Doc name.now self.old self.new) }
         ensures err { IfErr result (λ e. e ≡ EncodeFault.Memory) }
     {
-        put_front(&mut self.out, Kind::Doc, name)?;
-        let start = self.out.len();
-        put_bytes(&mut self.out, &[0; 4])?;
-        Ok(start)
+        self.begin_inside(Kind::Doc, name)
     }
 
-    /// Begins an array: the elements of its document, whose names are "0", "1" and so on, are written next, and then its end. The place at
-    /// which its total stands.
+    /// Begins an array: the elements of its document, whose names are "0", "1" and so on, are written next, and then its end.
+    /// The place at which its total stands.
     pub fn begin_array(&mut self, name: &str) -> Result<usize, EncodeFault>
         requires name { HasNoZero name.now }
         ensures begins { IfOk result (Begins kinds.Array name.now self.old self.new) }
         ensures err { IfErr result (λ e. e ≡ EncodeFault.Memory) }
     {
-        put_front(&mut self.out, Kind::Array, name)?;
+        self.begin_inside(Kind::Array, name)
+    }
+
+    /// Begins what holds elements, of that kind. The place at which its total stands.
+    fn begin_inside(&mut self, kind: Kind, name: &str) -> Result<usize, EncodeFault>
+        requires name { HasNoZero name.now }
+        ensures begins { IfOk result (Begins kind name.now self.old self.new) }
+        ensures err { IfErr result (λ e. e ≡ EncodeFault.Memory) }
+    {
+        put_front(&mut self.out, kind, name)?;
         let start = self.out.len();
         put_bytes(&mut self.out, &[0; 4])?;
         Ok(start)
@@ -153,7 +159,8 @@ impl ElementWriter {
     pub fn end(&mut self, start: usize) -> Result<(), EncodeFault>
         requires begun { start + 4 ≤ length self.old }
         ensures ends { OnOk result (Ends start self.old self.new) }
+        ensures long { IfErr result (Stops (length (document (drop (start + 4) self.old)))) }
     {
-        put_end(&mut self.out, start)
+        end_document(&mut self.out, start)
     }
 }

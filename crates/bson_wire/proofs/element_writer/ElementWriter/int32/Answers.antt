@@ -6,8 +6,8 @@ use Rattle.bson_doc.specs.declared.value.Value.TheVariants as value
 use Rattle.bson_doc.specs.wire.Spelled.{number32}
 use Rattle.bson_wire.proofs.Payloads.{payload-Int32}
 use Rattle.bson_wire.proofs.PlainWritten.{int32_spells}
-use Rattle.bson_build.proofs.WriteLemmas.{name-is, wrote-one}
-use Rattle.bson_build.proofs.writer.ElementWriter.int32.Goals as goal
+use Rattle.bson_wire.proofs.WriteLemmas.{name-is, wrote-one}
+use Rattle.bson_wire.proofs.element_writer.ElementWriter.int32.Goals as goal
 
 pub returns-clause-writes : goal.returns-clause-writes
 returns-clause-writes c =

@@ -2,11 +2,11 @@
 //!
 //! A [`Message`] has a header (messageLength, requestID, responseTo, opCode), flagBits, and sections: exactly one of kind 0,
 //! which holds its document, and any number of kind 1, each a [`Sequence`] of documents under a name. [`write`] gives the
-//! bytes of one with a section of kind 0 alone, and [`front_of`] what stands in front of its document; [`read`] reads the message at the front of some bytes, or names the first
-//! fault that it meets, with its place. Which bytes frame a message is said by the relation `Framed` of
-//! `specs/Framing.antt`, apart from both directions; `frame` there is what `write` gives, and `flaw` of
-//! `specs/Reading.antt` is the first fault. [`MsgFault::place`] is where in the message it stands. The laws that tie them
-//! are the contracts of [`laws`].
+//! bytes of one with a section of kind 0 alone, and [`front_of`] what stands in front of its document; [`read`] reads the
+//! message at the front of some bytes, or names the first fault that it meets, with its place. Which bytes frame a message
+//! is said by the relation `Framed` of `specs/Framing.antt`, apart from both directions; `frame` there is what `write`
+//! gives, and `flaw` of `specs/Reading.antt` is the first fault. [`MsgFault::place`] is where in the message it stands. The
+//! laws that tie them are the contracts of [`laws`].
 //!
 //! A caller that takes messages from a stream reads 16 bytes and calls [`read`]: a header that is out of order is refused
 //! at once, before anything that it promises is waited for. Else [`MsgFault::Short`] says how many bytes the message has,

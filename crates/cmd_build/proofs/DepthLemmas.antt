@@ -26,7 +26,7 @@ use Rattle.cmd_build.specs.declared.extras.Extras.{Extras}
 by_layer : (v : Value) (w : Value-F Value Document) → out-Value v ≡ w → depth_inside v ≡ value_step (map-Value Value Document ℕ ℕ depth_inside depth_of w)
 by_layer v w e = fold_out-Value ℕ ℕ value_step document_step v ∙ ap (λ u. value_step (map-Value Value Document ℕ ℕ depth_inside depth_of u)) e
 
-depth_inside-Doc : (d : Document) → depth_inside (Doc d) ≡ depth_of d
+pub depth_inside-Doc : (d : Document) → depth_inside (Doc d) ≡ depth_of d
 depth_inside-Doc d = by_layer _ _ (outs-Doc d)
 
 depth_inside-Str : (text : List ℕ) → depth_inside (value.Str text) ≡ 0
@@ -47,10 +47,10 @@ depth_inside-Binary subtype held = by_layer _ _ (outs-Binary subtype held)
 -- ---- fields
 
 -- How deep the values of fields lie.
-abbrev inside : List Field → ℕ
+abbrev pub inside : List Field → ℕ
 inside fields = greatest (λ e. depth_inside e.1) fields
 
-inside-append : (es fs : List Field) → inside (es ++ fs) ≡ max (inside es) (inside fs)
+pub inside-append : (es fs : List Field) → inside (es ++ fs) ≡ max (inside es) (inside fs)
 inside-append [] fs = omega arith
 inside-append (e ∷ es) fs = omega (arith, inside-append es fs)
 

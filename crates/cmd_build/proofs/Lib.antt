@@ -1,3 +1,4 @@
 pub mod DepthLemmas
 pub mod SizeLemmas
+pub mod FaultLemmas
 pub mod WriteLemmas

@@ -1,18 +1,21 @@
 //! What an act asks for: the fields that stand first in its command, as they are written.
-ghost use Rattle.std.specs.Prelude.{◌≡◌, ◌≤◌, ◌+◌, true, [], ◌∷◌, length, IfOk, OnOk, codes};
-ghost use Rattle.bson_build.specs.Writes.{Writes};
+ghost use Rattle.std.specs.Prelude.{◌≡◌, ◌≤◌, ◌+◌, true, [], ◌∷◌, drop, length, IfErr, IfOk, OnOk, codes};
 ghost use Rattle.bson_doc.specs.Names.{HasNoZero};
 ghost use Rattle.bson_doc.specs.declared.value.Value.{Doc};
-ghost use Rattle.cmd_build.specs.Batches.{BeginsBatch, EndsBatch, find_fields};
+ghost use Rattle.bson_wire.specs.Spelled.{document, string};
+ghost use Rattle.bson_wire.specs.Writes.{Writes};
+ghost use Rattle.bson_wire.specs.Written.{Stops};
+ghost use Rattle.cmd_build.specs.Batches.{BeginsBatch, EndsBatch, Stopped, find_fields};
 ghost use Rattle.cmd_build.specs.Commands.{act_fields, delete_statement, modification, update_statement};
 
 use crate::command::Act;
-use bson_build::{ElementWriter, EncodeFault};
+use bson_wire::{ElementWriter, EncodeFault};
 use bson_doc::Document;
 
 /// An act's own fields.
 pub(crate) fn put_act(writer: &mut ElementWriter, coll: &str, act: &Act) -> Result<(), EncodeFault>
     ensures writes { OnOk result (Writes writer.old writer.new (act_fields coll.now act.now)) }
+    ensures stops { IfErr result (Stopped (act_fields coll.now act.now)) }
 {
     match act {
         Act::Insert { doc } => {
@@ -55,6 +58,7 @@ fn begin_batch(
     requires name { HasNoZero name.now }
     requires list { HasNoZero list.now }
     ensures begins { IfOk result (BeginsBatch name.now coll.now list.now writer.old writer.new) }
+    ensures long { IfErr result (Stops (length (string coll.now))) }
 {
     writer.text(name, coll)?;
     writer.begin_array(list)
@@ -64,6 +68,7 @@ fn begin_batch(
 fn end_batch(writer: &mut ElementWriter, list: usize) -> Result<(), EncodeFault>
     requires begun { list + 4 ≤ length writer.old }
     ensures ends { OnOk result (EndsBatch list writer.old writer.new) }
+    ensures long { IfErr result (Stops (length (document (drop (list + 4) writer.old)))) }
 {
     writer.end(list)?;
     writer.truth("ordered", true)
@@ -78,6 +83,7 @@ fn put_update(
     upsert: bool,
 ) -> Result<(), EncodeFault>
     ensures writes { OnOk result (Writes writer.old writer.new ((codes "0", Doc (update_statement filter.now change.now multi upsert)) ∷ [])) }
+    ensures stops { IfErr result (Stopped ((codes "0", Doc (update_statement filter.now change.now multi upsert)) ∷ [])) }
 {
     let statement = writer.begin_document("0")?;
     writer.document("q", filter)?;
@@ -90,6 +96,7 @@ fn put_update(
 /// One delete statement.
 fn put_delete(writer: &mut ElementWriter, filter: &Document, all: bool) -> Result<(), EncodeFault>
     ensures writes { OnOk result (Writes writer.old writer.new ((codes "0", Doc (delete_statement filter.now all)) ∷ [])) }
+    ensures stops { IfErr result (Stopped ((codes "0", Doc (delete_statement filter.now all)) ∷ [])) }
 {
     let limit = if all { 0 } else { 1 };
     let statement = writer.begin_document("0")?;
@@ -104,6 +111,7 @@ fn put_modification(
     change: &Option<Document>,
 ) -> Result<(), EncodeFault>
     ensures writes { OnOk result (Writes writer.old writer.new (modification change.now ∷ [])) }
+    ensures stops { IfErr result (Stopped (modification change.now ∷ [])) }
 {
     match change {
         Some(change) => writer.document("update", change),
@@ -114,6 +122,7 @@ fn put_modification(
 /// The fields of a find of one document.
 fn put_find(writer: &mut ElementWriter, coll: &str, filter: &Document) -> Result<(), EncodeFault>
     ensures writes { OnOk result (Writes writer.old writer.new (find_fields coll.now filter.now)) }
+    ensures stops { IfErr result (Stopped (find_fields coll.now filter.now)) }
 {
     writer.text("find", coll)?;
     writer.document("filter", filter)?;

@@ -1,10 +1,12 @@
-ghost use Rattle.std.specs.Prelude.{◌≡◌, ◌≤◌, ◌++◌, IfOk, OnOk, codes};
+ghost use Rattle.std.specs.Prelude.{◌≡◌, ◌≤◌, ◌<◌, ◌++◌, length, IfErr, IfOk, OnOk, codes};
 ghost use Rattle.std.specs.Option.{option_copied};
-ghost use Rattle.bson_build.specs.Writes.{WroteAll, Writes};
+ghost use Rattle.bson_doc.specs.Documents.{depth_of};
+ghost use Rattle.bson_wire.specs.Limits.{most_bytes, most_levels};
 ghost use Rattle.bson_wire.specs.Spelled.{spelled};
 ghost use Rattle.bson_wire.specs.Spelling.{Spells};
-ghost use Rattle.cmd_build.specs.Batches.{extra_fields, front_fields};
-ghost use Rattle.cmd_build.specs.Commands.{command_document, concern_of, given, number_of, preference_of, session_of, time_of};
+ghost use Rattle.bson_wire.specs.Writes.{Writes};
+ghost use Rattle.cmd_build.specs.Batches.{Stopped, WroteAll, extra_fields, front_fields};
+ghost use Rattle.cmd_build.specs.Commands.{command_document, command_fields, concern_of, given, number_of, preference_of, session_of, time_of};
 ghost use Rattle.cmd_build.specs.Sizes.{IsWithin, levels_of_time};
 
 use crate::act_fields::put_act;
@@ -12,7 +14,7 @@ use crate::command::{Act, Command, is_write};
 use crate::extras::Extras;
 use crate::parts::{UUID, db_of};
 use crate::preference::{preference_document, sent_mode, sent_tags};
-use bson_build::{ElementWriter, EncodeFault};
+use bson_wire::{ElementWriter, EncodeFault};
 use bson_doc::{ClusterTime, Lsid};
 use std::alloc::Global;
 
@@ -36,6 +38,10 @@ pub fn append(
     ensures spelled { IfOk result (λ all. all.items ≡ bytes.items ++ spelled (command_document command.now db.now extras.now (option_copied time.entry))) }
     ensures spells { IsWithin 90 command.now.act → levels_of_time (option_copied time.entry) ≤ 99 →
         OnOk result (Spells (spelled (command_document command.now db.now extras.now (option_copied time.entry))) (command_document command.now db.now extras.now (option_copied time.entry))) }
+
+    // Each fault comes only where the document has it.
+    ensures deep { IfErr result (λ e. e ≡ EncodeFault.Deep → most_levels < depth_of (command_document command.now db.now extras.now (option_copied time.entry))) }
+    ensures long { IfErr result (λ e. e ≡ EncodeFault.Long → most_bytes < length (spelled (command_document command.now db.now extras.now (option_copied time.entry)))) }
 {
     let mut writer = ElementWriter::new(alloc, bytes);
     put_command(alloc, &mut writer, command, db, extras, time)?;
@@ -52,6 +58,7 @@ fn put_command(
     time: Option<&ClusterTime>,
 ) -> Result<(), EncodeFault>
     ensures wrote { OnOk result (WroteAll writer.old writer.new (command_document command.now db.now extras.now (option_copied time.entry))) }
+    ensures stops { IfErr result (Stopped (command_fields command.now db.now extras.now (option_copied time.entry))) }
 {
     let start = writer.begin()?;
     put_front(writer, command, db)?;
@@ -62,6 +69,7 @@ fn put_command(
 /// What a command asks for, and the fields behind that which stand in every command of its kind.
 fn put_front(writer: &mut ElementWriter, command: &Command, db: &str) -> Result<(), EncodeFault>
     ensures writes { OnOk result (Writes writer.old writer.new (front_fields command.now db.now)) }
+    ensures stops { IfErr result (Stopped (front_fields command.now db.now)) }
 {
     put_act(writer, command.coll.as_str(), &command.act)?;
     put_concern(writer, command)?;
@@ -78,6 +86,7 @@ fn put_extras(
     time: Option<&ClusterTime>,
 ) -> Result<(), EncodeFault>
     ensures writes { OnOk result (Writes writer.old writer.new (extra_fields act.now extras.now (option_copied time.entry))) }
+    ensures stops { IfErr result (Stopped (extra_fields act.now extras.now (option_copied time.entry))) }
 {
     put_preference(alloc, writer, act, extras)?;
     put_session(writer, extras.lsid)?;
@@ -88,6 +97,7 @@ fn put_extras(
 /// The write concern of a write.
 fn put_concern(writer: &mut ElementWriter, command: &Command) -> Result<(), EncodeFault>
     ensures writes { OnOk result (Writes writer.old writer.new (given (codes "writeConcern") (concern_of command.now.act))) }
+    ensures stops { IfErr result (Stopped (given (codes "writeConcern") (concern_of command.now.act))) }
 {
     if !is_write(command) {
         return Ok(());
@@ -105,6 +115,7 @@ fn put_preference(
     extras: &Extras<'_>,
 ) -> Result<(), EncodeFault>
     ensures writes { OnOk result (Writes writer.old writer.new (given (codes "$readPreference") (preference_of act.now extras.now))) }
+    ensures stops { IfErr result (Stopped (given (codes "$readPreference") (preference_of act.now extras.now))) }
 {
     match sent_mode(act, extras.mode) {
         Some(mode) => {
@@ -118,6 +129,7 @@ fn put_preference(
 /// The session's id, where one is given.
 fn put_session(writer: &mut ElementWriter, lsid: Option<Lsid>) -> Result<(), EncodeFault>
     ensures writes { OnOk result (Writes writer.old writer.new (given (codes "lsid") (session_of lsid))) }
+    ensures stops { IfErr result (Stopped (given (codes "lsid") (session_of lsid))) }
 {
     match lsid {
         Some(id) => {
@@ -132,6 +144,7 @@ fn put_session(writer: &mut ElementWriter, lsid: Option<Lsid>) -> Result<(), Enc
 /// The transaction number, where one is given.
 fn put_number(writer: &mut ElementWriter, number: Option<i64>) -> Result<(), EncodeFault>
     ensures writes { OnOk result (Writes writer.old writer.new (given (codes "txnNumber") (number_of number))) }
+    ensures stops { IfErr result (Stopped (given (codes "txnNumber") (number_of number))) }
 {
     match number {
         Some(number) => writer.int64("txnNumber", number),
@@ -142,6 +155,7 @@ fn put_number(writer: &mut ElementWriter, number: Option<i64>) -> Result<(), Enc
 /// The cluster time, where one is known.
 fn put_time(writer: &mut ElementWriter, time: Option<&ClusterTime>) -> Result<(), EncodeFault>
     ensures writes { OnOk result (Writes writer.old writer.new (given (codes "$clusterTime") (time_of (option_copied time.entry)))) }
+    ensures stops { IfErr result (Stopped (given (codes "$clusterTime") (time_of (option_copied time.entry)))) }
 {
     match time {
         Some(time) => writer.document("$clusterTime", &time.body),

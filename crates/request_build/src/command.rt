@@ -9,6 +9,7 @@ use crate::extras::{extras_of, sizes_of};
 use crate::ids::id_of;
 use crate::{CommandRequest, MadeRequest, Memory, SendAt, Sending};
 use bson_doc::Bytes;
+use bson_wire::EncodeFault;
 use cmd_build::{BuildFault, Extras, Sizes, append, measure};
 use desk_trail::{Purpose, Request};
 use msg_wire::front_of;
@@ -82,6 +83,7 @@ fn message_of(
     };
     match append(alloc, front, sending.command, db, extras, sending.time) {
         Ok(bytes) => Ok(Bytes::from_vec(bytes)),
-        Err(_) => Err(BuildFault::Memory),
+        Err(EncodeFault::Memory) => Err(BuildFault::Memory),
+        Err(EncodeFault::Deep | EncodeFault::Long) => unreachable!(),
     }
 }

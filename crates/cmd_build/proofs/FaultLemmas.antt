@@ -1,12 +1,12 @@
 -- What stops a writer of fields: a part of them that stops it does so with the rest beside it, and inside a document.
-use Rattle.std.proofs.Common.{◌≡◌, ◌<◌, ◌≤◌, ◌+◌, ℕ, List, [], ◌∷◌, ◌++◌, length, map, drop, true, Option, Some, decimal, codes, Result, Ok, Err, refl, sym, ap, subst, ◌∙◌, arith}
+use Rattle.std.proofs.Common.{◌≡◌, ◌<◌, ◌≤◌, ◌+◌, ℕ, List, [], ◌∷◌, ◌++◌, length, drop, true, Option, Some, decimal, codes, Result, Ok, Err, refl, sym, ap, subst, ◌∙◌, arith}
 use Rattle.std.specs.Prelude.{IfErr, IsErrAnd}
 use Rattle.std.specs.Option.{option_copied, option_map}
 use Rattle.std.proofs.lemmas.Fmt.{decimal_digit}
 use Rattle.std.proofs.lemmas.List.{length-append}
 use Rattle.std.proofs.lemmas.Result.{err_from_is_err_and}
 use Rattle.std.proofs.Math.Seq.{drop-append_seam}
-use Rattle.bson_doc.specs.Documents.{depth_inside, depth_of}
+use Rattle.bson_doc.specs.Documents.{depth_of}
 use Rattle.bson_doc.specs.declared.value.Document.{Document}
 use Rattle.bson_doc.specs.declared.value.Value.{Value, Array, Doc}
 use Rattle.bson_doc.specs.declared.value.Value.TheVariants as value
@@ -23,7 +23,7 @@ use Rattle.cmd_build.specs.Batches.{BeginsBatch, Stopped}
 use Rattle.cmd_build.specs.Commands.{Field, given, preference_document, preference_of, sent_mode, sent_tags}
 use Rattle.cmd_build.specs.declared.command.Act.{Act}
 use Rattle.cmd_build.specs.declared.extras.Extras.{Extras}
-use Rattle.cmd_build.proofs.DepthLemmas.{depth_inside-Doc, inside, inside-append}
+use Rattle.cmd_build.proofs.DepthLemmas.{depth_inside-Doc, inside-append}
 use Rattle.cmd_build.proofs.SizeLemmas.{fields_length, fields_length-++, fields_length-∷, length-Array, length-Binary, length-Doc, length-Str, length-spelled}
 
 -- ---- calls
@@ -110,8 +110,15 @@ stopped-array name v e h = stopped-more ((codes "0", v) ∷ []) ((name, Array (v
     digit = ap length (decimal_digit 0 (omega arith))
 
     long : fields_length ((codes "0", v) ∷ []) ≤ fields_length ((name, Array (v ∷ [])) ∷ [])
-    long = omega (arith, fields_length-∷ (codes "0") v [], fields_length-∷ name (Array (v ∷ [])) [], length-Array (v ∷ []), length-append (element (decimal 0) (payload v)) [],
-        length-element (decimal 0) (payload v), digit)
+    long = omega (
+      arith,
+      fields_length-∷ (codes "0") v [],
+      fields_length-∷ name (Array (v ∷ [])) [],
+      length-Array (v ∷ []),
+      length-append (element (decimal 0) (payload v)) [],
+      length-element (decimal 0) (payload v),
+      digit,
+    )
 
 -- The end of what holds the fields.
 pub end-stops : {T : Type 0} {at1 at2 : List ℕ} {es : List Field} (start : ℕ) (r : Result T EncodeFault) → start + 4 ≡ length at1 → Writes at1 at2 es →

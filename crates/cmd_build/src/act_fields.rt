@@ -9,8 +9,8 @@ ghost use Rattle.cmd_build.specs.Batches.{BeginsBatch, EndsBatch, Stopped, find_
 ghost use Rattle.cmd_build.specs.Commands.{act_fields, delete_statement, modification, update_statement};
 
 use crate::command::Act;
-use bson_wire::{ElementWriter, EncodeFault};
 use bson_doc::Document;
+use bson_wire::{ElementWriter, EncodeFault};
 
 /// An act's own fields.
 pub(crate) fn put_act(writer: &mut ElementWriter, coll: &str, act: &Act) -> Result<(), EncodeFault>

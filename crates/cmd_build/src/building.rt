@@ -14,8 +14,8 @@ use crate::command::{Act, Command, is_write};
 use crate::extras::Extras;
 use crate::parts::{UUID, db_of};
 use crate::preference::{preference_document, sent_mode, sent_tags};
-use bson_wire::{ElementWriter, EncodeFault};
 use bson_doc::{ClusterTime, Lsid};
+use bson_wire::{ElementWriter, EncodeFault};
 use std::alloc::Global;
 
 /// The bytes, and behind them the spelling of what the command sends, from a client of that database, with these extras and the greatest

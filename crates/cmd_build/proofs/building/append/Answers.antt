@@ -1,10 +1,5 @@
-use Rattle.std.proofs.Common.{◌≡◌, ◌<◌, length, arith, refl, subst}
+use Rattle.std.proofs.Common.{arith, refl, subst}
 use Rattle.std.specs.Option.{option_copied}
-use Rattle.bson_doc.specs.Documents.{depth_of}
-use Rattle.bson_wire.specs.Limits.{most_bytes, most_levels}
-use Rattle.bson_wire.specs.Spelled.{spelled}
-use Rattle.bson_wire.specs.declared.fault.EncodeFault.{EncodeFault}
-use Rattle.bson_wire.specs.declared.fault.EncodeFault.TheVariants as fault
 use Rattle.bson_wire.proofs.Written.{outermost_spells}
 use Rattle.cmd_build.specs.Batches.{Stopped}
 use Rattle.cmd_build.specs.Commands.{command_document, command_fields}

@@ -84,6 +84,7 @@ fn message_of(
     match append(alloc, front, sending.command, db, extras, sending.time) {
         Ok(bytes) => Ok(Bytes::from_vec(bytes)),
         Err(EncodeFault::Memory) => Err(BuildFault::Memory),
-        Err(EncodeFault::Deep | EncodeFault::Long) => unreachable!(),
+        Err(EncodeFault::Deep) => unreachable!(),
+        Err(EncodeFault::Long) => unreachable!(),
     }
 }

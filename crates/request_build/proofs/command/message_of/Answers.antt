@@ -3,6 +3,7 @@ use Rattle.std.proofs.lemmas.Int.{to_z-of_z}
 use Rattle.std.specs.Option.{option_copied}
 use Rattle.bson_wire.specs.Spelled.{spelled}
 use Rattle.cmd_build.specs.Commands.{command_document}
+use Rattle.cmd_build.proofs.DepthLemmas.{depth_of-command_document}
 use Rattle.conn_uri.specs.Configurations.{Configuration}
 use Rattle.msg_wire.specs.Framing.{Framed, frame}
 use Rattle.msg_wire.specs.Framing.{message_of as framed_message}
@@ -35,3 +36,13 @@ returns-in-Ok-append-clause-framed c =
     (framed_message c.args.id (pos 0) 0 (command_document c.args.sending.command.now name c.args.extras.now (option_copied c.args.sending.time)))) same framed in
     subst (λ (bytes : List ℕ). Framed bytes (framed_message c.args.id (pos 0) 0 (command_document c.args.sending.command.now c.args.sending.settings.now.db c.args.extras.now (option_copied c.args.sending.time))))
     (sym (returns-in-Ok-append-clause-asks c)) named
+
+pub unreachable-requires : goal.unreachable-requires
+unreachable-requires c =
+    let deep = depth_of-command_document 90 c.args.sending.command.now c.as_str-db.result.now c.args.extras.now (option_copied c.args.sending.time) c.requires.levels in
+    omega (arith, c.in-Err-Deep.ensures.deep c.in-Err-Deep.field-0-is, deep, c.requires.time)
+
+pub unreachable-requires-in-Err-Long : goal.unreachable-requires-in-Err-Long
+unreachable-requires-in-Err-Long c =
+    let long = fits c.args.sending.command.now c.as_str-db.result.now c.args.extras.now (option_copied c.args.sending.time) c.args.sizes c.requires.size c.in-Ok.ensures.fits in
+    omega (arith, c.in-Err-Long.ensures.long c.in-Err-Long.field-0-is, long)
